@@ -1,0 +1,64 @@
+-- Tests that hold or fail, and what a test says. Assumes nothing.
+use Prim.Native.Nat.{ℕ}
+use mathlib.Core.Path.{_≡_, refl, sym, ap₂, subst}
+use mathlib.Core.Bool.{Bool, true, false, not, _&&_, _||_, Bool·beq, true≢false}
+use mathlib.Core.Option.{none, some}
+use native.Mathlib.Omega.{arith}
+use lib.Dec.{T}
+
+-- ---- a test and its proposition
+
+pub is-true : (t : Bool) → t ≡ true → T t
+is-true true e = tt
+is-true false e = absurd (true≢false (sym e))
+
+pub true-is : (t : Bool) → T t → t ≡ true
+true-is true h = refl
+true-is false h = absurd h
+
+-- A test that can't hold fails.
+pub false-is : (t : Bool) → (T t → ⊥) → t ≡ false
+false-is true f = absurd (f tt)
+false-is false f = refl
+
+-- ---- connectives
+
+pub and-left : (a b : Bool) → (a && b) ≡ true → a ≡ true
+and-left true b e = refl
+and-left false b e = e
+
+pub and-right : (a b : Bool) → (a && b) ≡ true → b ≡ true
+and-right true b e = e
+and-right false b e = absurd (true≢false (sym e))
+
+pub and-both : (a b : Bool) → a ≡ true → b ≡ true → (a && b) ≡ true
+and-both a b p q = ap₂ (λ (x y : Bool). x && y) p q
+
+pub or-right : (a b : Bool) → b ≡ true → (a || b) ≡ true
+or-right true b e = refl
+or-right false b e = e
+
+pub not-false : (t : Bool) → not t ≡ true → t ≡ false
+not-false true e = sym e
+not-false false e = refl
+
+pub beq-eq : (a b : Bool) → Bool·beq a b ≡ true → a ≡ b
+beq-eq true true e = refl
+beq-eq true false e = absurd (true≢false (sym e))
+beq-eq false true e = absurd (true≢false (sym e))
+beq-eq false false e = refl
+
+pub eq-beq : (a b : Bool) → a ≡ b → Bool·beq a b ≡ true
+eq-beq a b e = subst (λ (x : Bool). Bool·beq a x ≡ true) e (go a)
+  where
+    go : (x : Bool) → Bool·beq x x ≡ true
+    go true = refl
+    go false = refl
+
+-- ---- constructors are one-to-one, and differ
+
+pub some-inj : {A : Type 0} {x y : A} → some x ≡ some y → x ≡ y
+some-inj e = cc
+
+pub none-some : {A C : Type 0} {x : A} → none ≡ some x → C
+none-some e = let z : _≡_ {A = ℕ} 0 1 = cc in absurd (omega arith)

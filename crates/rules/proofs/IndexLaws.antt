@@ -1,0 +1,215 @@
+-- Two families of keys in one order have their least at one index. Assumes nothing.
+use Prim.Native.Nat.{ℕ, zero, suc, _+_, _<_, _≤_}
+use mathlib.Core.Path.{_≡_, refl, sym, ap, ap₂, subst, _∙_}
+use mathlib.Core.Bool.{Bool, true, false, cond, not, _&&_, true≢false, and-true, and-false}
+use mathlib.Core.Logic.{_≢_}
+use mathlib.Core.Option.{Option, none, some}
+use native.Mathlib.Decide.{decLt}
+use native.Mathlib.Omega.{arith}
+use lib.Dec.{eqb}
+use borrow.Author.Tests.{eq-eqb, ne-eqb}
+use Rattle.rules.specs.Indices.{better, least, all, count, counted}
+use Rattle.rules.proofs.Booleans.{some-inj, none-some}
+
+module _ {A B : Type 0} (lessA : A → A → Bool) (lessB : B → B → Bool) (R : A → B → Type 0)
+    (same-order : (a a′ : A) (b b′ : B) → R a b → R a′ b′ → lessA a a′ ≡ lessB b b′) where
+  -- Both have no key, or keys in the relation.
+  abbrev pub Keys : Option A → Option B → Type 0
+  Keys none none = Unit {0}
+  Keys none (some b) = ⊥
+  Keys (some a) none = ⊥
+  Keys (some a) (some b) = R a b
+
+  -- Both have no least key, or one at the same index.
+  abbrev pub Least : Option (ℕ × A) → Option (ℕ × B) → Type 0
+  Least none none = Unit {0}
+  Least none (some w) = ⊥
+  Least (some v) none = ⊥
+  Least (some v) (some w) = (v .0 ≡ w .0) × R (v .1) (w .1)
+
+  pick : (t : Bool) (i : ℕ) (a : A) (b : B) (v : ℕ × A) (w : ℕ × B) → R a b → (v .0 ≡ w .0) × R (v .1) (w .1)
+      → Least (cond t (some (i, a)) (some v)) (cond t (some (i, b)) (some w))
+  pick true i a b v w r h = (refl, r)
+  pick false i a b v w r h = h
+
+  better-same : (v : Option (ℕ × A)) (w : Option (ℕ × B)) (i : ℕ) (x : Option A) (y : Option B)
+      → Least v w → Keys x y → Least (better lessA v i x) (better lessB w i y)
+  unfolding better
+  better-same none none i none none h r = tt
+  better-same none none i none (some b) h r = absurd r
+  better-same none none i (some a) none h r = absurd r
+  better-same none none i (some a) (some b) h r = (refl, r)
+  better-same none (some w) i x y h r = absurd h
+  better-same (some v) none i x y h r = absurd h
+  better-same (some v) (some w) i none none h r = h
+  better-same (some v) (some w) i none (some b) h r = absurd r
+  better-same (some v) (some w) i (some a) none h r = absurd r
+  better-same (some v) (some w) i (some a) (some b) h r =
+      rw (same-order a (v .1) b (w .1) r (h .1)) (pick (lessB b (w .1)) i a b v w r h)
+
+  -- By induction, one index after the other.
+  pub least-same : (f : ℕ → Option A) (g : ℕ → Option B) (k : ℕ) → ((i : ℕ) → i < k → Keys (f i) (g i)) → Least (least lessA f k) (least lessB g k)
+  unfolding least
+  least-same f g zero h = tt
+  least-same f g (suc k) h = better-same (least lessA f k) (least lessB g k) k (f k) (g k) (least-same f g k (λ i l. h i (omega arith))) (h k (omega arith))
+
+-- ---- the least is one of the keys
+
+module _ {A : Type 0} (less : A → A → Bool) where
+  better-in : (key : ℕ → Option A) (k : ℕ) (v : Option (ℕ × A)) (y : Option A) → key k ≡ y
+      → ((i : ℕ) (x : A) → v ≡ some (i, x) → (i < k) × (key i ≡ some x))
+      → (i : ℕ) (x : A) → better less v k y ≡ some (i, x) → (i < suc k) × (key i ≡ some x)
+  unfolding better
+  better-in key k none none e f i x q = none-some q
+  better-in key k none (some y) e f i x q =
+      let j : k ≡ i = ap (λ (w : ℕ × A). w .0) (some-inj q) in
+      let z : y ≡ x = ap (λ (w : ℕ × A). w .1) (some-inj q) in
+      (omega arith, subst (λ (n : ℕ). key n ≡ some x) j (e ∙ ap some z))
+  better-in key k (some w) none e f i x q = let h = f i x q in (omega (arith, h .0), h .1)
+  better-in key k (some w) (some y) e f i x q = go (less y (w .1)) q
+    where
+      go : (t : Bool) → cond t (some (k, y)) (some w) ≡ some (i, x) → (i < suc k) × (key i ≡ some x)
+      go true q =
+          let j : k ≡ i = ap (λ (w : ℕ × A). w .0) (some-inj q) in
+          let z : y ≡ x = ap (λ (w : ℕ × A). w .1) (some-inj q) in
+          (omega arith, subst (λ (n : ℕ). key n ≡ some x) j (e ∙ ap some z))
+      go false q = let h = f i x q in (omega (arith, h .0), h .1)
+
+  -- The least is one of the keys.
+  pub least-in : (key : ℕ → Option A) (k i : ℕ) (x : A) → least less key k ≡ some (i, x) → (i < k) × (key i ≡ some x)
+  unfolding least
+  least-in key zero i x q = none-some q
+  least-in key (suc k) i x q = better-in key k (least less key k) (key k) refl (least-in key k) i x q
+
+-- ---- tests over the indices below k
+
+pub counted-false : counted false ≡ 0
+unfolding counted
+counted-false = refl
+
+pub counted-true : counted true ≡ 1
+unfolding counted
+counted-true = refl
+
+-- A test of all holds at each.
+pub all-at : (f : ℕ → Bool) (k i : ℕ) → all k f ≡ true → i < k → f i ≡ true
+unfolding all
+all-at f zero i e h = absurd (omega arith)
+all-at f (suc k) i e h = go (all-at f k i) (all k f) (f k) refl refl e (decLt i k)
+  where
+    go : (all k f ≡ true → i < k → f i ≡ true) → (s t : Bool) → all k f ≡ s → f k ≡ t → (s && t) ≡ true → Dec (i < k) → f i ≡ true
+    go below true t p q r (yes l) = below p l
+    go below true t p q r (no l) = let j : i ≡ k = omega arith in ap f j ∙ q ∙ r
+    go below false t p q r d = absurd (true≢false (sym r))
+
+-- What holds at each passes the test of all.
+pub all-true : (f : ℕ → Bool) (k : ℕ) → ((i : ℕ) → i < k → f i ≡ true) → all k f ≡ true
+unfolding all
+all-true f zero h = refl
+all-true f (suc k) h = rw (all-true f k (λ i l. h i (omega arith))) (h k (omega arith))
+
+-- Equal tests count alike.
+pub count-same : (f g : ℕ → Bool) (k : ℕ) → ((j : ℕ) → j < k → f j ≡ g j) → count k f ≡ count k g
+unfolding count
+count-same f g zero h = refl
+count-same f g (suc k) h = ap₂ (λ (a : ℕ) (b : Bool). a + counted b) (count-same f g k (λ j l. h j (omega arith))) (h k (omega arith))
+
+-- Tests that differ at one index i count as much, but for i.
+pub count-change : (f g : ℕ → Bool) (i k : ℕ) → i < k → ((j : ℕ) → j ≢ i → f j ≡ g j) → count k f + counted (g i) ≡ count k g + counted (f i)
+unfolding count
+count-change f g i zero l h = absurd (omega arith)
+count-change f g i (suc k) l h = go (λ m. count-change f g i k m h) (decLt i k)
+  where
+    go : (i < k → count k f + counted (g i) ≡ count k g + counted (f i)) → Dec (i < k) → count k f + counted (f k) + counted (g i) ≡ count k g + counted (g k) + counted (f i)
+    go below (yes m) =
+        let e = below m in
+        let q : counted (f k) ≡ counted (g k) = ap counted (h k (omega arith)) in
+        omega arith
+    go below (no m) =
+        let j : i ≡ k = omega arith in
+        let e = count-same f g k (λ j l. h j (omega arith)) in
+        let p : counted (g i) ≡ counted (g k) = ap (λ (n : ℕ). counted (g n)) j in
+        let q : counted (f i) ≡ counted (f k) = ap (λ (n : ℕ). counted (f n)) j in
+        omega arith
+
+-- Tests that fail count nothing.
+pub count-none : (f : ℕ → Bool) (k : ℕ) → ((j : ℕ) → j < k → f j ≡ false) → count k f ≡ 0
+unfolding count counted
+count-none f zero h = refl
+count-none f (suc k) h = rw (count-none f k (λ j l. h j (omega arith)), h k (omega arith))
+
+-- A test that holds at most at i counts what it says there.
+pub count-only : (f : ℕ → Bool) (i k : ℕ) → i < k → ((j : ℕ) → j < k → j ≢ i → f j ≡ false) → count k f ≡ counted (f i)
+unfolding count counted
+count-only f i zero l h = absurd (omega arith)
+count-only f i (suc k) l h = go (λ m. count-only f i k m (λ j n. h j (omega arith))) (decLt i k)
+  where
+    go : (i < k → count k f ≡ cond (f i) 1 0) → Dec (i < k) → count k f + cond (f k) 1 0 ≡ cond (f i) 1 0
+    go below (yes m) = rw (h k (omega arith) (omega arith), below m) (omega arith)
+    go below (no m) =
+        let j : i ≡ k = omega arith in
+        let e : counted (f i) ≡ counted (f k) = ap (λ (n : ℕ). counted (f n)) j in
+        let z = count-none f k (λ j l. h j (omega arith) (omega arith)) in
+        omega arith
+
+-- Something is counted somewhere.
+pub count-some : (f : ℕ → Bool) (k : ℕ) → 0 < count k f → (i : ℕ) × (i < k) × (f i ≡ true)
+unfolding count counted
+count-some f zero h = absurd (omega arith)
+count-some f (suc k) h = go (f k) refl h (λ l. count-some f k l)
+  where
+    go : (t : Bool) → f k ≡ t → 0 < count k f + cond t 1 0 → (0 < count k f → (i : ℕ) × (i < k) × (f i ≡ true)) → (i : ℕ) × (i < suc k) × (f i ≡ true)
+    go true e l r = (k, omega arith, e)
+    go false e l r = let (i, m, q) = r (omega arith) in (i, omega arith, q)
+
+-- Two indices count two.
+pub count-two : (f : ℕ → Bool) (k i j : ℕ) → i < k → j < k → i ≢ j → f i ≡ true → f j ≡ true → 2 ≤ count k f
+count-two f k i j hi hj n ei ej =
+    let a = count-change (λ l. f l && not (eqb l i)) f i k hi (λ l m. ap (λ (t : Bool). f l && not t) (ne-eqb l i m) ∙ and-true (f l)) in
+    let b = count-change (λ l. f l && not (eqb l i) && not (eqb l j)) (λ l. f l && not (eqb l i)) j k hj (λ l m. ap (λ (t : Bool). f l && not (eqb l i) && not t) (ne-eqb l j m) ∙ and-true (f l && not (eqb l i))) in
+    let a₁ : counted (f i) ≡ 1 = ap counted ei ∙ counted-true in
+    let a₀ : counted (f i && not (eqb i i)) ≡ 0 = ap (λ (t : Bool). counted (f i && not t)) (eq-eqb i i refl) ∙ ap counted (and-false (f i)) ∙ counted-false in
+    let b₁ : counted (f j && not (eqb j i)) ≡ 1 = ap₂ (λ (s t : Bool). counted (s && not t)) ej (ne-eqb j i (λ e. n (sym e))) ∙ counted-true in
+    let b₀ : counted (f j && not (eqb j i) && not (eqb j j)) ≡ 0 = ap (λ (t : Bool). counted (f j && not (eqb j i) && not t)) (eq-eqb j j refl) ∙ ap counted (and-false (f j && not (eqb j i))) ∙ counted-false in
+    omega arith
+
+-- ---- the least is least
+
+module _ {A : Type 0} (less : A → A → Bool) (irrefl : (x : A) → less x x ≡ false) (below : (x y z : A) → less x y ≡ false → less z y ≡ true → less x z ≡ false) where
+  -- Against each key there is a least that it is not less than.
+  abbrev Beats : Option (ℕ × A) → A → Type 0
+  Beats v x = (j : ℕ) × (y : A) × (v ≡ some (j, y)) × (less x y ≡ false)
+
+  better-new : (v : Option (ℕ × A)) (k : ℕ) (x : A) → Beats (better less v k (some x)) x
+  unfolding better
+  better-new none k x = (k, x, refl, irrefl x)
+  better-new (some w) k x = go (less x (w .1)) refl
+    where
+      go : (t : Bool) → less x (w .1) ≡ t → Beats (cond t (some (k, x)) (some w)) x
+      go true e = (k, x, refl, irrefl x)
+      go false e = (w .0, w .1, refl, e)
+
+  better-old : (v : Option (ℕ × A)) (k : ℕ) (y : Option A) (x : A) → Beats v x → Beats (better less v k y) x
+  unfolding better
+  better-old none k y x (j, z, e, l) = none-some e
+  better-old (some w) k none x b = b
+  better-old (some w) k (some y) x (j, z, e, l) = go (less y (w .1)) refl
+    where
+      same-z : w .1 ≡ z
+      same-z = ap (λ (w : ℕ × A). w .1) (some-inj e)
+
+      go : (t : Bool) → less y (w .1) ≡ t → Beats (cond t (some (k, y)) (some w)) x
+      go true q = (k, y, refl, below x (w .1) y (ap (less x) same-z ∙ l) q)
+      go false q = (j, z, e, l)
+
+  -- No key is less than the least.
+  pub least-beats : (key : ℕ → Option A) (k i : ℕ) (x : A) → i < k → key i ≡ some x → Beats (least less key k) x
+  unfolding least
+  least-beats key zero i x l e = absurd (omega arith)
+  least-beats key (suc k) i x l e = go (λ m. least-beats key k i x m e) (decLt i k)
+    where
+      go : (i < k → Beats (least less key k) x) → Dec (i < k) → Beats (better less (least less key k) k (key k)) x
+      go f (yes m) = better-old (least less key k) k (key k) x (f m)
+      go f (no m) =
+          let j : i ≡ k = omega arith in
+          subst (λ (y : Option A). Beats (better less (least less key k) k y) x) (sym e ∙ ap key j) (better-new (least less key k) k x)

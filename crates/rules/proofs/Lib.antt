@@ -1,0 +1,9 @@
+pub mod Booleans
+pub mod IndexLaws
+pub mod Masks
+pub mod ClockLaws
+pub mod Integers
+pub mod AreaLaws
+pub mod BoardLaws
+pub mod FieldBytes
+pub mod Offsets

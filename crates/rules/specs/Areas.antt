@@ -1,0 +1,116 @@
+-- Bytes and areas (document 01, "Bytes and areas"): numbers in bytes, packets, port masks, and how outgoing and answers are laid out. Both routers share them. Assumes nothing.
+use Prim.Native.Nat.{ℕ, zero, suc, _+_, _-_, _*_, _/_, _%_, _^_}
+use mathlib.Core.Bool.{Bool, true, false, cond, not, _&&_, _||_}
+use mathlib.Core.List.{List, [], _∷_, _++_}
+use lib.ListN.{length, getD, take, drop, replicate}
+use lib.Dec.{leb, ltb, eqb}
+
+-- State and packet memory, which every entry of the router is lent.
+pub record Store : Type 0 where
+  pub state : List ℕ
+  pub memory : List ℕ
+
+-- What a caller sees of a call besides these.
+pub record Reply : Type 0 where
+  pub number : ℕ
+  pub outgoing : List ℕ
+  pub answers : List ℕ
+
+-- The reply of a call that is lent neither.
+abbrev pub quiet : ℕ → Reply
+quiet n = record { number = n; outgoing = []; answers = [] }
+
+abbrev pub byte : List ℕ → ℕ → ℕ
+byte l i = getD l i 0
+
+-- The bits of a clock reading of c bytes, and the bound of delays and horizons: 8 and 128 for one byte.
+unfoldable pub low : ℕ → ℕ
+low c = 8 * c - 1
+
+unfoldable pub bits : ℕ → ℕ
+bits c = suc (low c)
+
+unfoldable pub half : ℕ → ℕ
+half c = 2 ^ low c
+
+-- The number that bytes make, high first, and the k bytes of a number.
+unfoldable pub value : List ℕ → ℕ
+value [] = 0
+value (x ∷ xs) = x * 256 ^ length xs + value xs
+
+unfoldable pub digits : ℕ → ℕ → List ℕ
+digits zero v = []
+digits (suc k) v = v / 256 ^ k ∷ digits k (v % 256 ^ k)
+
+-- A packet has 20 bytes: connection identifier, a time of c bytes, data. Packet i of an area is slot i's in the memory, port i's in arrivals and outgoing.
+unfoldable pub packet : List ℕ → ℕ → List ℕ
+packet area i = take 20 (drop (20 * i) area)
+
+-- The time in a packet's header, and its data.
+unfoldable pub stamp : ℕ → List ℕ → ℕ
+stamp c k = value (take c (drop 1 k))
+
+unfoldable pub payload : ℕ → List ℕ → List ℕ
+payload c k = drop (1 + c) k
+
+unfoldable pub packed : ℕ → ℕ → ℕ → List ℕ → List ℕ
+packed c identifier v data′ = identifier ∷ digits c v ++ data′
+
+-- The display software's part of the outgoing area: the data of one port, empty exactly if the area isn't 100 bytes or the port is above 4.
+unfoldable pub display : ℕ → List ℕ → ℕ → List ℕ
+display c area p = cond (eqb (length area) 100 && leb p 4) (payload c (packet area p)) []
+
+-- A port mask has bit p for port p, 0 to 4.
+unfoldable pub has : ℕ → ℕ → Bool
+has mask p = eqb (mask / 2 ^ p % 2) 1
+
+unfoldable pub without : ℕ → ℕ → ℕ
+without mask p = cond (has mask p) (mask - 2 ^ p) mask
+
+-- The value fits the register, at a clock reading of c bytes: d (1) and a horizon (5) are below the half, masks (2, 4) at most 31, identifiers (0, 3) are bytes.
+unfoldable pub fits : ℕ → ℕ → ℕ → Bool
+fits c register v =
+    cond (eqb register 1 || eqb register 5) (ltb v (half c))
+    (cond (eqb register 2 || eqb register 4) (leb v 31) (ltb v 256))
+
+-- Where a stored register waits in the control latch: registers 0, 1 and 2 in order, then register 4.
+abbrev pub latchPlace : ℕ → ℕ
+latchPlace register = cond (eqb register 4) 3 register
+
+-- What f gives for ports 0 to 4, one after the other.
+unfoldable pub perPort : (ℕ → List ℕ) → List ℕ
+perPort f = f 0 ++ f 1 ++ f 2 ++ f 3 ++ f 4
+
+-- Who has a port in a tick: a packet on time or early, best-effort, or nobody; and its code in the answers.
+pub data Grant (A : Type 0) : Type 0 where
+  nobody : Grant A
+  bestEffort : Grant A
+  onTime : A → Grant A
+  early : A → Grant A
+
+unfoldable pub grantCode : {A : Type 0} → Grant A → ℕ
+grantCode nobody = 0
+grantCode (onTime x) = 1
+grantCode bestEffort = 2
+grantCode (early x) = 3
+
+-- For a port without a packet.
+abbrev pub noPacket : List ℕ
+noPacket = replicate 20 0
+
+-- The arrivals, outgoing and answers areas of a tick have their lengths.
+unfoldable pub areasFull : List ℕ → List ℕ → List ℕ → Bool
+areasFull area out ans = eqb (length area) 100 && eqb (length out) 100 && eqb (length ans) 20
+
+-- Per port who has it, what its arrival met, and how many were withdrawn, in two bytes, high first.
+unfoldable pub answersArea : (ℕ → ℕ) → (ℕ → ℕ) → (ℕ → ℕ) → List ℕ
+answersArea port arrival withdrawn = perPort (λ p. port p ∷ []) ++ perPort (λ p. arrival p ∷ []) ++ perPort (λ p. withdrawn p / 256 ∷ withdrawn p % 256 ∷ [])
+
+-- Lists of slot addresses.
+unfoldable pub elem : ℕ → List ℕ → Bool
+elem a [] = false
+elem a (x ∷ xs) = eqb a x || elem a xs
+
+unfoldable pub distinct : List ℕ → Bool
+distinct [] = true
+distinct (x ∷ xs) = not (elem x xs) && distinct xs

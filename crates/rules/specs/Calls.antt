@@ -1,0 +1,87 @@
+-- Calls, a list of them run by the router that never turns over, and what is asked of the list (document 01, "The router that never turns over"). Assumes nothing.
+use Prim.Native.Nat.{ℕ, _^_, _<_}
+use mathlib.Core.Path.{_≡_}
+use mathlib.Core.Bool.{true, cond, not, _&&_}
+use mathlib.Core.List.{List, [], _∷_}
+use mathlib.Core.Option.{Option, none, some}
+use lib.ListN.{length}
+use lib.Dec.{leb, eqb}
+use lib.IntN.{ℤ, pos, negℤ, _+ℤ_, _-ℤ_}
+use lib.Signed.{_≤ℤ_, _<ℤ_}
+use Rattle.rules.specs.Clock.{cut, offset}
+use Rattle.rules.specs.Areas.{Reply, quiet, areasFull, byte, bits, half, packet, stamp, has, fits}
+use Rattle.rules.specs.Whole.{Router, TickCall, Report, settings, ticked, outgoingBytes, answerBytes}
+
+pub data Call : Type 0 where
+  control : ℕ → ℕ → Call
+  tick : TickCall → Call
+
+-- What a call does; `report` is an accepted tick's.
+pub record Step : Type 0 where
+  pub reply : Reply
+  pub router : Router
+  pub report : Option Report
+
+module _ (c : ℕ) where
+  -- The number of a call: every question but whether the state is sound.
+  unfoldable pub refusal : Call → ℕ
+  refusal (control register v) = cond (not (leb register 5)) 4 (cond (not (fits c register v)) 5 0)
+  refusal (tick k) =
+      cond (not (areasFull (k .arrivals) (k .outgoing) (k .answers))) 1 (cond (not (leb (k .arriving) 31 && leb (k .bestEffort) 31)) 3 0)
+
+  unfoldable pub accept : Router → Call → Step
+  accept r (control register v) = record { reply = quiet 0; router = settings register v r; report = none }
+  accept r (tick k) =
+      let t = ticked c r k in
+      record { reply = record { number = 0; outgoing = outgoingBytes c (t .report); answers = answerBytes (t .report) }; router = t .router; report = some (t .report) }
+
+  -- A refused call changes nothing.
+  unfoldable pub refuse : Router → Call → ℕ → Step
+  refuse r (control register v) n = record { reply = quiet n; router = r; report = none }
+  refuse r (tick k) n = record { reply = record { number = n; outgoing = k .outgoing; answers = k .answers }; router = r; report = none }
+
+  unfoldable pub wholeStep : Router → Call → Step
+  wholeStep r k = let n = refusal k in cond (eqb n 0) (accept r k) (refuse r k n)
+
+  unfoldable pub routerAfter : Router → List Call → Router
+  routerAfter r [] = r
+  routerAfter r (k ∷ ks) = routerAfter (wholeStep r k .router) ks
+
+  unfoldable pub wholeReplies : Router → List Call → List Reply
+  wholeReplies r [] = []
+  wholeReplies r (k ∷ ks) = let o = wholeStep r k in o .reply ∷ wholeReplies (o .router) ks
+
+  -- What is asked of a call: masks, registers and what the areas hold are bytes; a value is as wide as a clock reading.
+  unfoldable pub Bytes : List ℕ → Type 0
+  Bytes l = (i : ℕ) → i < length l → byte l i < 256
+
+  unfoldable pub ByteCall : Call → Type 0
+  ByteCall (control register v) = (register < 256) × (v < 2 ^ bits c)
+  ByteCall (tick k) = (k .arriving < 256) × (k .bestEffort < 256) × Bytes (k .arrivals) × Bytes (k .outgoing) × Bytes (k .answers)
+
+  -- The packet on port p has a true time from half the clock's turn before T to less than that after it (T - 128 to T + 127 at one byte), and this time cut in its header.
+  pub record TrueTime (r : Router) (k : TickCall) (p : ℕ) : Type 0 where
+    pub from : negℤ (pos (half c)) ≤ℤ (k .times p -ℤ r .clock)
+    pub to : (k .times p -ℤ r .clock) <ℤ pos (half c)
+    pub header : stamp c (packet (k .arrivals) p) ≡ cut (bits c) (k .times p)
+
+  -- Each packet that an accepted tick brings.
+  unfoldable pub TrueTimes : Router → Call → Type 0
+  TrueTimes r (control register v) = Unit {0}
+  TrueTimes r (tick k) = refusal (tick k) ≡ 0 → (p : ℕ) → p < 5 → has (k .arriving) p ≡ true → TrueTime r k p
+
+  unfoldable pub Proper : Router → List Call → Type 0
+  Proper r [] = Unit {0}
+  Proper r (k ∷ ks) = ByteCall k × TrueTimes r k × Proper (wholeStep r k .router) ks
+
+  -- True times that any bytes can be given: the clock and the offset of the header's time.
+  unfoldable pub trueTimes : ℤ → List ℕ → ℕ → ℤ
+  trueTimes t area p = t +ℤ offset (bits c) (stamp c (packet area p)) (cut (bits c) t)
+
+  unfoldable pub fed : Router → Call → Call
+  fed r (control register v) = control register v
+  fed r (tick k) = tick (record { arriving = k .arriving; bestEffort = k .bestEffort; arrivals = k .arrivals; outgoing = k .outgoing; answers = k .answers; times = trueTimes (r .clock) (k .arrivals) })
+
+  unfoldable pub feed : Router → List Call → List Call
+  feed r [] = []
+  feed r (k ∷ ks) = let k′ = fed r k in k′ ∷ feed (wholeStep r k′ .router) ks

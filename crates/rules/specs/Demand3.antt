@@ -1,0 +1,90 @@
+-- Demand 3: any list of calls from a fresh router, run by both routers. Assumes nothing.
+use Prim.Native.Nat.{ℕ, _+_, _^_, _≤_, _<_}
+use mathlib.Core.Path.{_≡_}
+use mathlib.Core.Bool.{true}
+use mathlib.Core.List.{List, [], _∷_, List·Memᴰ}
+use mathlib.Core.Option.{Option, none, some}
+use lib.ListN.{length, take}
+use Rattle.rules.specs.Clock.{cut}
+use Rattle.rules.specs.Areas.{Store, Reply, bits, packet}
+use Rattle.rules.specs.Board as L
+use Rattle.rules.specs.Board.{Board}
+use Rattle.rules.specs.Board8.{board8}
+use Rattle.rules.specs.Questions as Entry
+use Rattle.rules.specs.Questions.{fresh, stack, sound}
+use Rattle.rules.specs.Tick.{Outcome}
+use Rattle.rules.specs.Whole.{Router, Held, Report, start, packetBytes}
+use Rattle.rules.specs.Calls.{Call, control, tick, wholeStep, routerAfter, wholeReplies, ByteCall, Proper, feed}
+use Rattle.rules.specs.Account.{Done, stored, Accounts}
+
+-- An accepted tick is noted, a refused one and a control write are not.
+unfoldable pub noted : Router → Call → List ℕ → Option Report → List Done → List Done
+noted r (control register v) out t l = l
+noted r (tick k) out none l = l
+noted r (tick k) out (some t) l = record { met = r; call = k; report = t; outgoing = out } ∷ l
+
+module _ (B : Board) where
+  open Board B using (clockBytes as c, get)
+
+  -- The run of the router over bytes.
+  unfoldable pub byteStep : Store → Call → Outcome
+  byteStep r (control register v) = Entry.controlWrite B r register v
+  byteStep r (tick k) = Entry.tick B r (k .arriving) (k .bestEffort) (k .arrivals) (k .outgoing) (k .answers)
+
+  unfoldable pub storeAfter : Store → List Call → Store
+  storeAfter r [] = r
+  storeAfter r (k ∷ ks) = storeAfter (byteStep r k .store) ks
+
+  unfoldable pub byteReplies : Store → List Call → List Reply
+  byteReplies r [] = []
+  byteReplies r (k ∷ ks) = let o = byteStep r k in o .reply ∷ byteReplies (o .store) ks
+
+  -- The accepted ticks, each with what the router that never turns over did and the outgoing area of the router over bytes.
+  unfoldable pub history : Store → Router → List Call → List Done
+  history r w [] = []
+  history r w (k ∷ ks) =
+      let b = byteStep r k in
+      let o = wholeStep c w k in
+      noted w k (b .reply .outgoing) (o .report) (history (b .store) (o .router) ks)
+
+  -- State and memory show the places.
+  pub record HeldShown (r : Store) (i : ℕ) (x : Held) : Type 0 where
+    pub time : get (r .state) (L.time i) ≡ cut (bits c) (x .packet .time)
+    pub deadline : get (r .state) (L.deadline i) ≡ cut (bits c) (x .packet .deadline)
+    pub left : get (r .state) (L.mask i) ≡ x .left
+    pub bytes : packet (r .memory) i ≡ packetBytes c (x .packet)
+
+  -- An empty place is a slot with mask 0.
+  abbrev pub PlaceShown : Store → ℕ → Option Held → Type 0
+  PlaceShown r i none = get (r .state) (L.mask i) ≡ 0
+  PlaceShown r i (some x) = HeldShown r i x × (0 < x .left)
+
+  pub record Shown (r : Store) (w : Router) : Type 0 where
+    pub clock : get (r .state) L.clock ≡ cut (bits c) (w .clock)
+    pub horizon : (p : ℕ) → p < 5 → get (r .state) (L.horizon p) ≡ w .horizon p
+    pub latch : (q : ℕ) → q < 4 → get (r .state) (L.latch q) ≡ w .latch q
+    pub identifier : (i : ℕ) → i < 256 → get (r .state) (L.outgoing i) ≡ w .entry i .identifier
+    pub delay : (i : ℕ) → i < 256 → get (r .state) (L.delay i) ≡ w .entry i .delay
+    pub routes : (i : ℕ) → i < 256 → get (r .state) (L.routes i) ≡ w .entry i .mask
+    pub place : (i : ℕ) → i < 256 → PlaceShown r i (w .place i)
+    pub free : get (r .state) L.free + stored (w .place) ≡ 256
+    pub stack : stack B (r .state) ≡ w .free
+
+  -- After the calls ks on a router fresh at the clock reading t.
+  pub record AfterCalls (t : ℕ) (ks : List Call) : Type 0 where
+    pub replies : byteReplies (fresh B t) ks ≡ wholeReplies c (start t) ks
+    pub sound : sound B (storeAfter (fresh B t) ks) ≡ true
+    pub shown : Shown (storeAfter (fresh B t) ks) (routerAfter c (start t) ks)
+    pub accounts : Accounts c (history (fresh B t) (start t) ks) (routerAfter c (start t) ks)
+
+  -- At every clock reading, for every proper list, after each of its calls.
+  unfoldable pub Holds : Type 0
+  Holds = (t : ℕ) → t < 2 ^ bits c → (ks : List Call) → Proper c (start t) ks → (n : ℕ) → n ≤ length ks → AfterCalls t (take n ks)
+
+-- What is asked of the calls can always be met: any bytes have true times.
+unfoldable pub Feedable : ℕ → Type 0
+Feedable c = (t : ℕ) → t < 2 ^ bits c → (ks : List Call) → ((k : Call) → List·Memᴰ k ks → ByteCall c k) → Proper c (start t) (feed c (start t) ks)
+
+-- The whole of demand 3, for document 01's board.
+unfoldable pub Demand3 : Type 0
+Demand3 = Holds board8 × Feedable (board8 .clockBytes)

@@ -1,0 +1,12 @@
+pub mod Clock
+pub mod Indices
+pub mod Areas
+pub mod Board
+pub mod Board8
+pub mod Control
+pub mod Tick
+pub mod Questions
+pub mod Whole
+pub mod Calls
+pub mod Account
+pub mod Demand3

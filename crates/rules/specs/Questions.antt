@@ -1,0 +1,87 @@
+-- The questions, in order (document 01), and the entries that put them: a refused call gives its number and alters nothing. Assumes nothing.
+use Prim.Native.Nat.{ℕ, _-_}
+use mathlib.Core.Bool.{Bool, cond, not, _&&_, _||_, Bool·beq}
+use mathlib.Core.List.{List}
+use lib.ListN.{length, replicate}
+use lib.Dec.{leb, ltb, eqb}
+use lib.IntN.{pos, negℤ}
+use lib.Signed.{leZ}
+use Rattle.rules.specs.Clock.{minus, offset}
+use Rattle.rules.specs.Indices.{all, topFirst}
+use Rattle.rules.specs.Areas.{Store, Reply, quiet, areasFull, bits, half, packet, stamp, fits, elem, distinct}
+use Rattle.rules.specs.Board.{Board, clock, horizon, latch, free, idle, time, deadline, mask, delay, routes}
+use Rattle.rules.specs.Control.{written}
+use Rattle.rules.specs.Tick.{Outcome, ticked}
+
+module _ (B : Board) where
+  open Board B using (clockBytes as c, stateLength, get, freshState)
+
+  -- 1: does every lent area have its length?
+  unfoldable pub full : Store → Bool
+  full r = eqb (length (r .state)) stateLength && eqb (length (r .memory)) 5120
+
+  -- 2: is the state sound? d, horizons and registers are in range, and the table's masks at most 31.
+  abbrev pub connectionSound : List ℕ → ℕ → Bool
+  connectionSound s i = ltb (get s (delay i)) (half c) && leb (get s (routes i)) 31
+
+  abbrev pub horizonSound : List ℕ → ℕ → Bool
+  horizonSound s p = ltb (get s (horizon p)) (half c)
+
+  abbrev pub latchSound : List ℕ → Bool
+  latchSound s = ltb (get s (latch 1)) (half c) && (leb (get s (latch 2)) 31 && leb (get s (latch 3)) 31)
+
+  unfoldable pub settingsSound : List ℕ → Bool
+  settingsSound s = all 256 (connectionSound s) && (all 5 (horizonSound s) && latchSound s)
+
+  -- The first n entries of the stack, top first.
+  unfoldable pub stack : List ℕ → List ℕ
+  stack s = topFirst (λ i. get s (idle i)) (get s free)
+
+  -- They are exactly the slots with mask 0: slot i is among them just if it is one.
+  abbrev pub listed : List ℕ → ℕ → Bool
+  listed s i = Bool·beq (elem i (stack s)) (eqb (get s (mask i)) 0)
+
+  unfoldable pub stackSound : List ℕ → Bool
+  stackSound s = leb (get s free) 256 && (distinct (stack s) && all 256 (listed s))
+
+  -- Slot i is empty, or its mask has five bits, deadline - time is a d in range, its time's offset is - d to 126 and the header in memory has its deadline.
+  unfoldable pub slotSound : Store → ℕ → Bool
+  slotSound r i =
+      let s = r .state in
+      let d = minus (bits c) (get s (deadline i)) (get s (time i)) in
+      let o = offset (bits c) (get s (time i)) (get s clock) in
+      eqb (get s (mask i)) 0
+      || (leb (get s (mask i)) 31 && ltb d (half c) && leZ (negℤ (pos d)) o && leZ o (pos (half c - 2)) && eqb (stamp c (packet (r .memory) i)) (get s (deadline i)))
+
+  unfoldable pub slotsSound : Store → Bool
+  slotsSound r = all 256 (slotSound r)
+
+  unfoldable pub sound : Store → Bool
+  sound r = settingsSound (r .state) && (stackSound (r .state) && slotsSound r)
+
+  -- A control write's number, 0 for accepted: is the register 0-5 (4), does the value fit it (5)?
+  unfoldable pub controlRefusal : Store → ℕ → ℕ → ℕ
+  controlRefusal r register v =
+      cond (not (full r)) 1 (cond (not (sound r)) 2 (cond (not (leb register 5)) 4 (cond (not (fits c register v)) 5 0)))
+
+  -- A tick's number: are both masks at most 31 (3)?
+  unfoldable pub tickRefusal : Store → ℕ → ℕ → List ℕ → List ℕ → List ℕ → ℕ
+  tickRefusal r arriving waiting area out ans =
+      cond (not (full r && areasFull area out ans)) 1 (cond (not (sound r)) 2 (cond (not (leb arriving 31 && leb waiting 31)) 3 0))
+
+  -- A fresh router: the given clock, and zero memory.
+  unfoldable pub fresh : ℕ → Store
+  fresh t = record { state = freshState t; memory = replicate 5120 0 }
+
+  unfoldable pub makeFresh : Store → ℕ → Outcome
+  makeFresh r t = cond (full r) (record { reply = quiet 0; store = fresh t }) (record { reply = quiet 1; store = r })
+
+  unfoldable pub controlWrite : Store → ℕ → ℕ → Outcome
+  controlWrite r register v =
+      let n = controlRefusal r register v in
+      cond (eqb n 0) (record { reply = quiet 0; store = record { state = written B register v (r .state); memory = r .memory } }) (record { reply = quiet n; store = r })
+
+  unfoldable pub tick : Store → ℕ → ℕ → List ℕ → List ℕ → List ℕ → Outcome
+  tick r arriving waiting area out ans =
+      let n = tickRefusal r arriving waiting area out ans in
+      cond (eqb n 0) (ticked B r arriving waiting area) (record { reply = record { number = n; outgoing = out; answers = ans }; store = r })

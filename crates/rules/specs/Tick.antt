@@ -1,0 +1,131 @@
+-- A tick's six steps on a sound state (document 01, "A tick"). Assumes nothing.
+use Prim.Native.Nat.{ℕ, zero, suc, _+_, _-_, _*_}
+use mathlib.Core.Bool.{Bool, true, false, cond, not, _&&_}
+use mathlib.Core.List.{List}
+use mathlib.Core.Option.{Option, none, some}
+use lib.Seq.{sets}
+use lib.Dec.{leb, ltb, eqb}
+use lib.IntN.{pos, negℤ}
+use lib.Signed.{ltZ, leZ}
+use Rattle.rules.specs.Clock.{plus, minus, offset}
+use Rattle.rules.specs.Indices.{least, count}
+use Rattle.rules.specs.Areas.{Store, Reply, byte, bits, packet, stamp, payload, packed, has, without, perPort, Grant, nobody, bestEffort, onTime, early, grantCode, noPacket, answersArea}
+use Rattle.rules.specs.Board.{Board, clock, horizon, free, idle, time, deadline, mask, outgoing, delay, routes}
+
+-- From the least on-time key, best-effort's wait, the least early key and the horizon.
+unfoldable pub granted : Option (ℕ × ℕ) → Bool → Option (ℕ × ℕ) → ℕ → Grant ℕ
+granted (some w) b e h = onTime (w .0)
+granted none true e h = bestEffort
+granted none false none h = nobody
+granted none false (some w) h = cond (leb (w .1) h) (early (w .0)) nobody
+
+-- What a port sends: a copy from memory.
+unfoldable pub grantBytes : List ℕ → Grant ℕ → List ℕ
+grantBytes m nobody = noPacket
+grantBytes m bestEffort = noPacket
+grantBytes m (onTime i) = packet m i
+grantBytes m (early i) = packet m i
+
+-- What a call gives and leaves.
+pub record Outcome : Type 0 where
+  pub reply : Reply
+  pub store : Store
+
+module _ (B : Board) where
+  open Board B using (clockBytes as c, get, put)
+
+  -- Step 1, arrivals. Questions 6 to 8: what the arrival k on port p meets, 0 none, 1 stored, else the number of its refusal.
+  unfoldable pub arrival : List ℕ → ℕ → ℕ → List ℕ → ℕ
+  arrival s arriving p k =
+      cond (not (has arriving p)) 0
+      (cond (eqb (get s (routes (byte k 0))) 0) 6
+      (cond (ltZ (offset (bits c) (stamp c k) (get s clock)) (negℤ (pos (get s (delay (byte k 0)))))) 7
+      (cond (eqb (get s free) 0) 8 1)))
+
+  -- The accepted packet k takes the top idle address.
+  unfoldable pub placed : Store → List ℕ → Store
+  placed r k =
+      let s = r .state in
+      let n = get s free - 1 in
+      let i = get s (idle n) in
+      let d = plus (bits c) (stamp c k) (get s (delay (byte k 0))) in
+      record {
+        state = put (put (put (put s free n) (time i) (stamp c k)) (deadline i) d) (mask i) (get s (routes (byte k 0)));
+        memory = sets (r .memory) (20 * i) (packed c (get s (outgoing (byte k 0))) d (payload c k));
+      }
+
+  abbrev pub admitted : Store → ℕ → ℕ → List ℕ → Store
+  admitted r arriving p k = cond (eqb (arrival (r .state) arriving p k) 1) (placed r k) r
+
+  -- Step 1 for the ports below p.
+  unfoldable pub arrived : ℕ → ℕ → List ℕ → Store → Store
+  arrived zero arriving area r = r
+  arrived (suc p) arriving area r = let r′ = arrived p arriving area r in admitted r′ arriving p (packet area p)
+
+  -- Step 2, each port's choice. The keys of slot i for port p: deadline - t if it is on time, time - t if it is early.
+  unfoldable pub onTimeKey : List ℕ → ℕ → ℕ → Option ℕ
+  onTimeKey s p i = cond (has (get s (mask i)) p && leZ (offset (bits c) (get s (time i)) (get s clock)) (pos 0)) (some (minus (bits c) (get s (deadline i)) (get s clock))) none
+
+  unfoldable pub earlyKey : List ℕ → ℕ → ℕ → Option ℕ
+  earlyKey s p i = cond (has (get s (mask i)) p && ltZ (pos 0) (offset (bits c) (get s (time i)) (get s clock))) (some (minus (bits c) (get s (time i)) (get s clock))) none
+
+  -- The smaller key wins, equal keys go to the lower slot.
+  unfoldable pub grant : List ℕ → ℕ → ℕ → Grant ℕ
+  grant s waiting p = granted (least ltb (onTimeKey s p) 256) (has waiting p) (least ltb (earlyKey s p) 256) (get s (horizon p))
+
+  -- Step 3, the port leaves the mask of the slot that it sent.
+  abbrev pub leave : ℕ → ℕ → List ℕ → List ℕ
+  leave p i s = put s (mask i) (without (get s (mask i)) p)
+
+  unfoldable pub sent : ℕ → Grant ℕ → List ℕ → List ℕ
+  sent p nobody s = s
+  sent p bestEffort s = s
+  sent p (onTime i) s = leave p i s
+  sent p (early i) s = leave p i s
+
+  -- Steps 2 and 3 for the ports below p.
+  unfoldable pub served : ℕ → ℕ → List ℕ → List ℕ
+  served zero waiting s = s
+  served (suc p) waiting s = let s′ = served p waiting s in sent p (grant s′ waiting p) s′
+
+  -- Step 4, withdrawal: slots whose deadline is t.
+  abbrev pub isDue : List ℕ → ℕ → Bool
+  isDue s i = eqb (get s (deadline i)) (get s clock)
+
+  -- What it counts on port p.
+  unfoldable pub withdrawals : List ℕ → ℕ → ℕ
+  withdrawals s p = count 256 (λ i. has (get s (mask i)) p && isDue s i)
+
+  -- Step 4 for the slots below i.
+  unfoldable pub withdrawn : ℕ → List ℕ → List ℕ
+  withdrawn zero s = s
+  withdrawn (suc i) s = let s′ = withdrawn i s in cond (isDue s′ i) (put s′ (mask i) 0) s′
+
+  -- Step 5, a slot emptied goes back on the stack.
+  abbrev pub giveBack : ℕ → List ℕ → List ℕ
+  giveBack i s = put (put s (idle (get s free)) i) free (get s free + 1)
+
+  -- Step 5 for the slots below i: those that had a port to serve in `held` and have none now.
+  unfoldable pub returned : ℕ → List ℕ → List ℕ → List ℕ
+  returned zero held s = s
+  returned (suc i) held s =
+      let s′ = returned i held s in
+      cond (not (eqb (get held (mask i)) 0) && eqb (get s′ (mask i)) 0) (giveBack i s′) s′
+
+  -- Step 6.
+  abbrev pub advanced : List ℕ → List ℕ
+  advanced s = put s clock (plus (bits c) (get s clock) 1)
+
+  unfoldable pub ticked : Store → ℕ → ℕ → List ℕ → Outcome
+  ticked r arriving waiting area =
+      let r₁ = arrived 5 arriving area r in
+      let s₃ = served 5 waiting (r₁ .state) in
+      let g : ℕ → Grant ℕ = λ p. grant (served p waiting (r₁ .state)) waiting p in
+      record {
+        reply = record {
+          number = 0;
+          outgoing = perPort (λ p. grantBytes (r₁ .memory) (g p));
+          answers = answersArea (λ p. grantCode (g p)) (λ p. arrival (arrived p arriving area r .state) arriving p (packet area p)) (withdrawals s₃);
+        };
+        store = record { state = advanced (returned 256 (r₁ .state) (withdrawn 256 s₃)); memory = r₁ .memory };
+      }
