@@ -7,3 +7,16 @@ pub mod AreaLaws
 pub mod BoardLaws
 pub mod FieldBytes
 pub mod Offsets
+pub mod TimeLaws
+pub mod TableLaws
+pub mod Board8Laws
+pub mod StateLaws
+pub mod WholeLaws
+pub mod Good
+pub mod Accounting
+pub mod Stage
+pub mod RefineArrivals
+pub mod RefineServed
+pub mod RefineEmptied
+pub mod RefineControl
+pub mod Refine

@@ -1,0 +1,207 @@
+-- A board given by its table is lawful where each byte has one owner: one computed test over the fields. Assumes nothing.
+use Prim.Native.Nat.{ℕ, zero, suc, _+_, _-_, _<_, _≤_}
+use mathlib.Core.Path.{_≡_, refl, sym, ap, ap₂, subst, _∙_}
+use mathlib.Core.Bool.{Bool, true, false, cond, _&&_, true≢false}
+use mathlib.Core.List.{List, _++_}
+use native.Mathlib.Decide.{decLt}
+use native.Mathlib.Omega.{arith}
+use lib.ListN.{length, take, drop, length-append}
+use lib.Seq.{length-sets, take-at, drop-append-add}
+use lib.Dec.{ltb, eqb}
+use borrow.Author.Tests.{eqb-true, ltb-true, eq-eqb}
+use Rattle.rules.specs.Areas.{value, digits}
+use Rattle.rules.specs.Board.{byTable, Field, clock, horizon, latch, free, idle, time, deadline, mask, outgoing, delay, routes, getAt, putAt}
+use Rattle.rules.specs.Indices.{all}
+use Rattle.rules.proofs.Booleans.{and-left, and-right}
+use Rattle.rules.proofs.BoardLaws.{Laws, freshField, kind, index, extent, same, Valid}
+use Rattle.rules.proofs.IndexLaws.{all-at}
+use Rattle.rules.proofs.AreaLaws.{part-same, part-other, length-digits, value-digits}
+
+-- The field of a kind and an index.
+abbrev pub field : ℕ → ℕ → Field
+field zero i = clock
+field (suc zero) i = horizon i
+field (suc (suc zero)) i = latch i
+field (suc (suc (suc zero))) i = free
+field (suc (suc (suc (suc zero)))) i = idle i
+field (suc (suc (suc (suc (suc zero))))) i = time i
+field (suc (suc (suc (suc (suc (suc zero)))))) i = deadline i
+field (suc (suc (suc (suc (suc (suc (suc zero))))))) i = mask i
+field (suc (suc (suc (suc (suc (suc (suc (suc zero)))))))) i = outgoing i
+field (suc (suc (suc (suc (suc (suc (suc (suc (suc zero))))))))) i = delay i
+field (suc (suc (suc (suc (suc (suc (suc (suc (suc (suc n)))))))))) i = routes i
+
+-- Kind and index make the field, and the kind tells how many there are.
+field-of : (f : Field) → (field (kind f) (index f) ≡ f) × (kind f < 11) × (extent (field (kind f) 0) ≡ extent f)
+field-of clock = (refl, omega arith, refl)
+field-of (horizon p) = (refl, omega arith, refl)
+field-of (latch r) = (refl, omega arith, refl)
+field-of free = (refl, omega arith, refl)
+field-of (idle i) = (refl, omega arith, refl)
+field-of (time i) = (refl, omega arith, refl)
+field-of (deadline i) = (refl, omega arith, refl)
+field-of (mask i) = (refl, omega arith, refl)
+field-of (outgoing i) = (refl, omega arith, refl)
+field-of (delay i) = (refl, omega arith, refl)
+field-of (routes i) = (refl, omega arith, refl)
+
+-- A test of every field.
+unfoldable pub each : (Field → Bool) → Bool
+each t = all 11 (λ k. all (extent (field k 0)) (λ i. t (field k i)))
+
+-- A test of every field holds at each valid one.
+pub each-at : (t : Field → Bool) → each t ≡ true → (f : Field) → Valid f → t f ≡ true
+unfolding each
+each-at t e f v =
+    let (e₀, l, q) = field-of f in
+    ap t (sym e₀) ∙ all-at (λ i. t (field (kind f) i)) (extent (field (kind f) 0)) (index f) (all-at (λ k. all (extent (field k 0)) (λ i. t (field k i))) 11 (kind f) e l) (subst (λ (n : ℕ). index f < n) (sym q) v)
+
+module _ (table : Field → ℕ × ℕ) (size : ℕ) (ownerKind ownerIndex : ℕ → ℕ) where
+  -- f has a byte, its bytes are inside, and each is f's.
+  unfoldable pub owned : Field → Bool
+  owned f = ltb 0 (table f .1) && all (table f .1) (λ b. ltb (table f .0 + b) size && (eqb (ownerKind (table f .0 + b)) (kind f) && eqb (ownerIndex (table f .0 + b)) (index f)))
+
+  module _ (test : each owned ≡ true) where
+    module _ (f : Field) (v : Valid f) where
+      nonempty : 0 < table f .1
+      unfolding owned
+      nonempty = ltb-true 0 (table f .1) (and-left (ltb 0 (table f .1)) (all (table f .1) (λ b. ltb (table f .0 + b) size && (eqb (ownerKind (table f .0 + b)) (kind f) && eqb (ownerIndex (table f .0 + b)) (index f)))) (each-at owned test f v))
+
+      module _ (b : ℕ) (l : b < table f .1) where
+        byte-of : (ltb (table f .0 + b) size && (eqb (ownerKind (table f .0 + b)) (kind f) && eqb (ownerIndex (table f .0 + b)) (index f))) ≡ true
+        unfolding owned
+        byte-of = all-at (λ b. ltb (table f .0 + b) size && (eqb (ownerKind (table f .0 + b)) (kind f) && eqb (ownerIndex (table f .0 + b)) (index f))) (table f .1) b (and-right (ltb 0 (table f .1)) (all (table f .1) (λ b. ltb (table f .0 + b) size && (eqb (ownerKind (table f .0 + b)) (kind f) && eqb (ownerIndex (table f .0 + b)) (index f)))) (each-at owned test f v)) l
+
+        inside : table f .0 + b < size
+        inside = ltb-true (table f .0 + b) size (and-left (ltb (table f .0 + b) size) (eqb (ownerKind (table f .0 + b)) (kind f) && eqb (ownerIndex (table f .0 + b)) (index f)) byte-of)
+
+        owners : (eqb (ownerKind (table f .0 + b)) (kind f) && eqb (ownerIndex (table f .0 + b)) (index f)) ≡ true
+        owners = and-right (ltb (table f .0 + b) size) (eqb (ownerKind (table f .0 + b)) (kind f) && eqb (ownerIndex (table f .0 + b)) (index f)) byte-of
+
+        owner-kind : ownerKind (table f .0 + b) ≡ kind f
+        owner-kind = eqb-true (ownerKind (table f .0 + b)) (kind f) (and-left (eqb (ownerKind (table f .0 + b)) (kind f)) (eqb (ownerIndex (table f .0 + b)) (index f)) owners)
+
+        owner-index : ownerIndex (table f .0 + b) ≡ index f
+        owner-index = eqb-true (ownerIndex (table f .0 + b)) (index f) (and-right (eqb (ownerKind (table f .0 + b)) (kind f)) (eqb (ownerIndex (table f .0 + b)) (index f)) owners)
+
+    -- The last byte is inside, so all are.
+    fits-in : (f : Field) → Valid f → table f .0 + table f .1 ≤ size
+    fits-in f v = go (table f .1) refl
+      where
+        go : (n : ℕ) → table f .1 ≡ n → table f .0 + n ≤ size
+        go zero e = let h = nonempty f v in absurd (omega arith)
+        go (suc n) e = let h = inside f v n (omega arith) in omega arith
+
+    same-is : (f g : Field) → same f g ≡ true → f ≡ g
+    same-is f g e =
+        let a = eqb-true (kind f) (kind g) (and-left (eqb (kind f) (kind g)) (eqb (index f) (index g)) e) in
+        let b = eqb-true (index f) (index g) (and-right (eqb (kind f) (kind g)) (eqb (index f) (index g)) e) in
+        sym (field-of f .0) ∙ ap₂ field a b ∙ field-of g .0
+
+    -- A byte of two fields makes them the same.
+    meet : (f g : Field) → Valid f → Valid g → (k l : ℕ) → k < table f .1 → l < table g .1 → table g .0 + l ≡ table f .0 + k → same f g ≡ true
+    meet f g vf vg k l hk hl e =
+        let a : kind f ≡ kind g = sym (owner-kind f vf k hk) ∙ ap ownerKind (sym e) ∙ owner-kind g vg l hl in
+        let b : index f ≡ index g = sym (owner-index f vf k hk) ∙ ap ownerIndex (sym e) ∙ owner-index g vg l hl in
+        ap₂ (λ (x y : Bool). x && y) (eq-eqb (kind f) (kind g) a) (eq-eqb (index f) (index g) b)
+
+    -- A store keeps the length.
+    pub length-putAt : (s : List ℕ) (f : Field) (v : ℕ) → length (putAt table s f v) ≡ length s
+    unfolding putAt
+    length-putAt s f v = length-sets s (table f .0) (digits (table f .1) v)
+
+    -- The same field is read back, and another shares no byte.
+    pub getAt-putAt : (s : List ℕ) (f : Field) (v : ℕ) (g : Field) → length s ≡ size → Valid f → Valid g → getAt table (putAt table s f v) g ≡ cond (same f g) v (getAt table s g)
+    unfolding putAt getAt
+    getAt-putAt s f v g z vf vg = go (same f g) refl
+      where
+        self : getAt table (putAt table s f v) f ≡ v
+        self = ap value (part-same s (digits (table f .1) v) (table f .0) (table f .1) (length-digits (table f .1) v) (let h = fits-in f vf in omega arith)) ∙ value-digits (table f .1) v (nonempty f vf)
+
+        go : (t : Bool) → same f g ≡ t → getAt table (putAt table s f v) g ≡ cond t v (getAt table s g)
+        go true e = subst (λ (g : Field). getAt table (putAt table s f v) g ≡ v) (same-is f g e) self
+        go false e = ap value (part-other s (digits (table f .1) v) (table f .0) (table g .0) (table g .1) (λ k l hk hl q. true≢false (sym (meet f g vf vg k l (let h = length-digits (table f .1) v in omega arith) hl q) ∙ e)))
+
+-- ---- the fresh state
+
+fresh-other : (t : ℕ) (f : Field) → same clock f ≡ false → freshField 0 f ≡ freshField t f
+fresh-other t clock e = absurd (true≢false e)
+fresh-other t (horizon p) e = refl
+fresh-other t (latch r) e = refl
+fresh-other t free e = refl
+fresh-other t (idle i) e = refl
+fresh-other t (time i) e = refl
+fresh-other t (deadline i) e = refl
+fresh-other t (mask i) e = refl
+fresh-other t (outgoing i) e = refl
+fresh-other t (delay i) e = refl
+fresh-other t (routes i) e = refl
+
+-- What stands after the first bytes does not depend on them.
+drop-past : (a b l : List ℕ) (n : ℕ) → length a ≡ length b → length a ≤ n → drop n (a ++ l) ≡ drop n (b ++ l)
+drop-past a b l n e h =
+    let k = n - length a in
+    let p : n ≡ length a + k = omega arith in
+    let q : n ≡ length b + k = omega arith in
+    ap (λ (m : ℕ). drop m (a ++ l)) p ∙ drop-append-add a l k ∙ sym (ap (λ (m : ℕ). drop m (b ++ l)) q ∙ drop-append-add b l k)
+
+-- The tests that make a table lawful: each byte has one owner, the clock stands first, and the rest is fresh.
+pub record Tested (c size : ℕ) (table : Field → ℕ × ℕ) (rest : List ℕ) : Type 0 where
+  pub some-bytes : 0 < c
+  pub few-bytes : c < 20
+  pub ownerKind : ℕ → ℕ
+  pub ownerIndex : ℕ → ℕ
+  pub owners : each (owned table size ownerKind ownerIndex) ≡ true
+  pub first : table clock .0 ≡ 0
+  pub wide : table clock .1 ≡ c
+  pub whole : c + length rest ≡ size
+  pub blank : each (λ f. eqb (getAt table (digits c 0 ++ rest) f) (freshField 0 f)) ≡ true
+
+module _ (c size : ℕ) (table : Field → ℕ × ℕ) (rest : List ℕ) (H : Tested c size table rest) where
+  abbrev state : ℕ → List ℕ
+  state t = digits c t ++ rest
+
+  -- Every other field stands after the clock.
+  after-clock : (f : Field) → Valid f → same clock f ≡ false → c ≤ table f .0
+  after-clock f v e = go (decLt (table f .0) c)
+    where
+      go : Dec (table f .0 < c) → c ≤ table f .0
+      go (yes l) =
+          let n = nonempty table size (H .ownerKind) (H .ownerIndex) (H .owners) f v in
+          let a = H .first in
+          let b = H .wide in
+          absurd (true≢false (sym (meet table size (H .ownerKind) (H .ownerIndex) (H .owners) clock f (omega arith) v (table f .0) 0 (omega arith) n (omega arith)) ∙ e))
+      go (no l) = omega arith
+
+  get-first : (t : ℕ) → getAt table (state t) clock ≡ t
+  unfolding getAt
+  get-first t =
+      ap₂ (λ (w p : ℕ). value (take w (drop p (state t)))) (H .wide) (H .first)
+      ∙ ap value (take-at (digits c t) rest c (length-digits c t)) ∙ value-digits c t (H .some-bytes)
+
+  get-later : (t : ℕ) (f : Field) → Valid f → same clock f ≡ false → getAt table (state t) f ≡ freshField t f
+  unfolding getAt
+  get-later t f v e =
+      let l = after-clock f v e in
+      let a = length-digits c t in
+      ap (λ (l : List ℕ). value (take (table f .1) l)) (drop-past (digits c t) (digits c 0) rest (table f .0) (a ∙ sym (length-digits c 0)) (omega arith))
+      ∙ eqb-true (getAt table (state 0) f) (freshField 0 f) (each-at (λ f. eqb (getAt table (state 0) f) (freshField 0 f)) (H .blank) f v)
+      ∙ fresh-other t f e
+
+  get-fresh : (t : ℕ) (f : Field) → Valid f → getAt table (state t) f ≡ freshField t f
+  get-fresh t f v = go (same clock f) refl
+    where
+      go : (b : Bool) → same clock f ≡ b → getAt table (state t) f ≡ freshField t f
+      go true e = subst (λ (f : Field). getAt table (state t) f ≡ freshField t f) (same-is table size (H .ownerKind) (H .ownerIndex) (H .owners) clock f e) (get-first t)
+      go false e = get-later t f v e
+
+  -- All laws, from the tests.
+  pub lawful-table : Laws (byTable c size table rest)
+  lawful-table = record {
+    some-bytes = H .some-bytes;
+    few-bytes = H .few-bytes;
+    length-put = length-putAt table size (H .ownerKind) (H .ownerIndex) (H .owners);
+    get-put = getAt-putAt table size (H .ownerKind) (H .ownerIndex) (H .owners);
+    length-fresh = λ t. length-append (digits c t) rest ∙ ap (λ (n : ℕ). n + length rest) (length-digits c t) ∙ H .whole;
+    get-fresh = get-fresh;
+  }
