@@ -20,3 +20,5 @@ pub mod RefineServed
 pub mod RefineEmptied
 pub mod RefineControl
 pub mod Refine
+pub mod Runs
+pub mod RunAccounts

@@ -1,52 +1,30 @@
--- What an accepted call has passed, and runs of good routers: quiet calls, which leave clock and places, and ticks. Assumes nothing.
+-- Runs of good routers, the induction of every claim about a list of calls: calls that leave clock and places, and ticks. Assumes nothing.
 use Prim.Native.Nat.{ℕ, zero, suc, _+_, _*_, _<_, _≤_}
 use mathlib.Core.Path.{_≡_, refl, sym, subst, _∙_}
 use mathlib.Core.Bool.{Bool, true, false, cond, not, _&&_}
 use mathlib.Core.List.{List, [], _∷_}
-use mathlib.Core.Option.{none, some}
 use native.Mathlib.Omega.{arith}
 use lib.ListN.{length, drop}
 use lib.Seq.{getD-take, getD-drop}
 use lib.Dec.{leb, eqb}
-use lib.IntN.{ℤ}
 use borrow.Author.Tests.{eqb-true, leb-true, ltb-true}
 use Rattle.rules.specs.Account.{Done}
-use Rattle.rules.specs.Areas.{half, packet, has, fits}
+use Rattle.rules.specs.Areas.{half, packet, has, fits, areasFull}
 use Rattle.rules.specs.Calls.{tick, refusal, Bytes, ByteCall, TrueTimes}
-use Rattle.rules.specs.Whole.{Router, Entry, Report, put, settings, ticked, grantBytes, TickCall}
-use Rattle.rules.proofs.Booleans.{none-some, and-left}
+use Rattle.rules.specs.Whole.{Router, TickCall, Entry, put, settings, ticked, grantBytes}
+use Rattle.rules.proofs.Booleans.{and-left}
 use Rattle.rules.proofs.Good.{Good, Settings, Input, tick-good}
 
--- ---- what an accepted call has passed
+-- ---- a control write keeps the router good
 
-both : (x y : ℕ) (a b : Bool) → cond (not a) (some x) (cond (not b) (some y) none) ≡ none → (a ≡ true) × (b ≡ true)
-both x y true true e = (refl, refl)
-both x y true false e = none-some (sym e)
-both x y false b e = none-some (sym e)
-
--- An accepted tick has whole areas and masks of five bits.
-pub tick-passed : (c : ℕ) (k : Tick) → refusal c (tick k) ≡ none
-    → ((eqb (length (k .arrivals)) 100 && eqb (length (k .outgoing)) 100 && eqb (length (k .answers)) 20) ≡ true) × ((leb (k .arriving) 31 && leb (k .bestEffort) 31) ≡ true)
-unfolding refusal
-tick-passed c k e = both 1 3 (eqb (length (k .arrivals)) 100 && eqb (length (k .outgoing)) 100 && eqb (length (k .answers)) 20) (leb (k .arriving) 31 && leb (k .bestEffort) 31) e
-
--- ---- a control write keeps the settings in range
+-- What holds of both arms holds of the one taken.
+chosen : {A : Type 0} {x y : A} (t : Bool) (P : A → Type 0) → P x → P y → P (cond t x y)
+chosen true P hx hy = hx
+chosen false P hx hy = hy
 
 put-entry : (P : Entry → Type 0) (f : ℕ → Entry) (v : ℕ) (x : Entry) → P x → ((i : ℕ) → i < 256 → P (f i)) → (i : ℕ) → i < 256 → P (put f v x i)
 unfolding put
-put-entry P f v x hx hf i l = go (eqb v i)
-  where
-    go : (t : Bool) → P (cond t x (f i))
-    go true = hx
-    go false = hf i l
-
-set-where : (t : ℕ → Bool) (v n : ℕ) (f : ℕ → ℕ) (p : ℕ) → v < n → f p < n → setWhere t v f p < n
-unfolding setWhere
-set-where t v n f p hv hf = go (t p)
-  where
-    go : (b : Bool) → cond b v (f p) < n
-    go true = hv
-    go false = hf
+put-entry P f v x hx hf i l = chosen (eqb v i) P hx (hf i l)
 
 settings-range : (c : ℕ) (w : Router) → Settings c w → (register v : ℕ) → register ≤ 5 → fits c register v ≡ true → Settings c (settings register v w)
 unfolding settings put fits
@@ -65,25 +43,38 @@ settings-range c w S (suc (suc (suc (suc zero)))) v l f = record { delay = S .de
 settings-range c w S (suc (suc (suc (suc (suc zero))))) v l f = record {
   delay = S .delay;
   routes = S .routes;
-  horizon = λ p m. set-where (has (w .latch 3)) v (half c) (w .horizon) p (ltb-true v (half c) f) (S .horizon p m);
+  horizon = λ p m. chosen (has (w .latch 3) p) (λ n. n < half c) (ltb-true v (half c) f) (S .horizon p m);
   latch1 = S .latch1;
   latch2 = S .latch2;
   latch3 = S .latch3;
 }
 settings-range c w S (suc (suc (suc (suc (suc (suc n)))))) v l f = absurd (omega arith)
 
--- So a control write keeps the router good.
+-- A control write that fits its register keeps every setting in range.
 pub settings-good : (c : ℕ) (w : Router) → Good c w → (register v : ℕ) → register ≤ 5 → fits c register v ≡ true → Good c (settings register v w)
 unfolding settings
 settings-good c w G register v l f = record { settings = settings-range c w (G .settings) register v l f; kept = G .kept; fit = G .fit; busy = G .busy }
 
 -- ---- an accepted tick's input
 
+passed : (a b : Bool) → _≡_ {A = ℕ} (cond (not a) 1 (cond (not b) 3 0)) 0 → a ≡ true
+passed true b e = refl
+passed false b e = absurd (omega arith)
+
+-- An accepted tick has a whole arrivals area.
+pub whole-area : (c : ℕ) (k : TickCall) → refusal c (tick k) ≡ 0 → length (k .arrivals) ≡ 100
+unfolding refusal areasFull
+whole-area c k e =
+    let a = eqb (length (k .arrivals)) 100 in
+    let b = eqb (length (k .outgoing)) 100 in
+    let d = eqb (length (k .answers)) 20 in
+    eqb-true (length (k .arrivals)) 100 (and-left a b (and-left (a && b) d (passed (a && b && d) (leb (k .arriving) 31 && leb (k .bestEffort) 31) e)))
+
 -- From what is asked of the calls.
-pub input-of : (c : ℕ) (w : Router) (k : Tick) → ByteCall c (tick k) → TrueTimes c w (tick k) → refusal c (tick k) ≡ none → Input c w k
+pub input-of : (c : ℕ) (w : Router) (k : TickCall) → ByteCall c (tick k) → TrueTimes c w (tick k) → refusal c (tick k) ≡ 0 → Input c w k
 unfolding ByteCall TrueTimes Bytes packet
 input-of c w k (ha, hb, bytes, ho, hn) true-times e =
-    let whole : length (k .arrivals) ≡ 100 = eqb-true (length (k .arrivals)) 100 (and-left (eqb (length (k .arrivals)) 100) (eqb (length (k .outgoing)) 100) (and-left (eqb (length (k .arrivals)) 100 && eqb (length (k .outgoing)) 100) (eqb (length (k .answers)) 20) (tick-passed c k e .0))) in
+    let whole = whole-area c k e in
     record {
       whole = whole;
       identifier = λ p l. subst (λ (n : ℕ). n < 256) (sym (getD-take 20 (drop (20 * p) (k .arrivals)) 0 0 (omega arith) ∙ getD-drop (20 * p) (k .arrivals) 0 0)) (bytes (20 * p + 0) (omega arith));
@@ -92,34 +83,26 @@ input-of c w k (ha, hb, bytes, ho, hn) true-times e =
       header = λ p l h. true-times e p l h .header;
     }
 
--- A tick keeps the router good.
-pub ticked-good : (c : ℕ) (w : Router) (call : TickCall) → Good c w → Input c w call → Good c (ticked c w call .router)
-unfolding ticked
-ticked-good c w call G I = tick-good c w call G I b
-
 -- ---- runs
 
--- A control write leaves the clock.
-pub settings-clock : (register v : ℕ) (r : Router) → settings register v r .clock ≡ r .clock
-unfolding settings
-settings-clock register v r = refl
-
--- It leaves the places.
-pub settings-place : (register v : ℕ) (r : Router) → settings register v r .place ≡ r .place
-unfolding settings
-settings-place register v r = refl
-
 module _ (c : ℕ) where
-  -- What a tick is noted as.
-  abbrev pub done-of : Router → Report → List ℕ → Done
-  done-of r t out = record { clock = r .clock; horizon = r .horizon; report = t; outgoing = out }
+  -- The router after the tick that d notes.
+  abbrev pub next : Done → Router
+  next d = ticked c (d .met) (d .call) .router
 
-  -- The outgoing area holds what each port was granted.
-  abbrev pub Sends : List ℕ → Report → Type 0
-  Sends out t = (p : ℕ) → p < 5 → packet out p ≡ grantBytes c (t .grant p)
+  -- d notes a tick of a good router, and the outgoing area holds what each port was granted.
+  pub record Ticking (d : Done) : Type 0 where
+    pub good : Good c (d .met)
+    pub input : Input c (d .met) (d .call)
+    pub report : d .report ≡ ticked c (d .met) (d .call) .report
+    pub sends : (p : ℕ) → p < 5 → packet (d .outgoing) p ≡ grantBytes c (d .report .grant p)
+
+  -- A tick keeps the router good.
+  pub next-good : {d : Done} → Ticking d → Good c (next d)
+  unfolding ticked
+  next-good {d} t = tick-good c (d .met) (d .call) (t .good) (t .input)
 
   pub data Run : Router → List Done → Router → Type 0 where
     rest : {r : Router} → Good c r → Run r [] r
     quiet : {r r′ w : Router} {h : List Done} → r′ .clock ≡ r .clock → r′ .place ≡ r .place → Run r′ h w → Run r h w
-    ticks : {r w : Router} {h : List Done} (call : TickCall) (out : List ℕ) → Good c r → Input c r call → Sends out (ticked c r call .report)
-        → Run (ticked c r call .router) h w → Run r (done-of r (ticked c r call .report) out ∷ h) w
+    ticks : {w : Router} {h : List Done} (d : Done) → Ticking d → Run (next d) h w → Run (d .met) (d ∷ h) w
