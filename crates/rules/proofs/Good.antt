@@ -15,7 +15,8 @@ use Rattle.rules.specs.Clock.{cut}
 use Rattle.rules.specs.Whole.{Packet, Held, Router, TickCall, withPlaces, advanced, accepted, grant, served, isDue, emptied, meets, arrivals, isHeld}
 use Rattle.rules.proofs.Integers.{leZ-refl, leZ-trans, lt-suc, not-lt, not-le, soon-suc, lt-widen, suc-le}
 use Rattle.rules.proofs.Masks.{without-le}
-use Rattle.rules.proofs.WholeLaws.{AllHeld, fresh-held, loses, admitted-all, sent-all, grant-rests, grant-place, Made, arrival-made, admitted-kept, sent-kept, sent-held, emptied-kept, admitted-frame, sent-frame, emptied-frame, emptied-held}
+use Rattle.rules.proofs.WholeLaws.{AllHeld, fresh-held, loses, admitted-all, sent-all, Made, arrival-made, admitted-kept, sent-kept, sent-held, emptied-kept, admitted-frame, sent-frame, emptied-frame, emptied-held}
+use Rattle.rules.proofs.Grants.{grant-rests, grant-place}
 
 -- The times of a packet at the clock t: deadline by a delay in range, not past, and the time less than n ahead.
 pub record Fit (c : ℕ) (t : ℤ) (n : ℕ) (x : Packet) : Type 0 where

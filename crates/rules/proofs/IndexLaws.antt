@@ -162,6 +162,16 @@ count-some f (suc k) h = go (f k) refl h (λ l. count-some f k l)
     go true e l r = (k, omega arith, e)
     go false e l r = let (i, m, q) = r (omega arith) in (i, omega arith, q)
 
+-- An index where it holds is counted.
+pub count-pos : (f : ℕ → Bool) (k i : ℕ) → i < k → f i ≡ true → 0 < count k f
+unfolding count
+count-pos f zero i l e = absurd (omega arith)
+count-pos f (suc k) i l e = go (λ m. count-pos f k i m e) (decLt i k)
+  where
+    go : (i < k → 0 < count k f) → Dec (i < k) → 0 < count k f + counted (f k)
+    go below (yes m) = let a = below m in omega arith
+    go below (no m) = let j : i ≡ k = omega arith in let a : counted (f k) ≡ 1 = ap (λ (n : ℕ). counted (f n)) (sym j) ∙ ap counted e ∙ counted-true in omega arith
+
 -- Two indices count two.
 pub count-two : (f : ℕ → Bool) (k i j : ℕ) → i < k → j < k → i ≢ j → f i ≡ true → f j ≡ true → 2 ≤ count k f
 count-two f k i j hi hj n ei ej =

@@ -48,6 +48,11 @@ pub diff-lt : (v u w : ℤ) → ltZ (u -ℤ v) (w -ℤ v) ≡ ltZ u w
 diff-lt v = by-view (λ v. (u w : ℤ) → ltZ (u -ℤ v) (w -ℤ v) ≡ ltZ u w) (λ e f. by-views (λ u w. ltZ (u -ℤ subℕ e f) (w -ℤ subℕ e f) ≡ ltZ u w) (λ a b c d.
     ap₂ ltZ (sub-sub a b e f) (sub-sub c d e f) ∙ sub-ltZ (a + f) (b + e) (c + f) (d + e) ∙ ltb-iff (a + f + (d + e)) (c + f + (b + e)) (a + d) (c + b) (omega arith) (omega arith) ∙ sym (sub-ltZ a b c d))) v
 
+pub diff-mono : (v u w : ℤ) → T (leZ u w) → T (leZ (u -ℤ v) (w -ℤ v))
+diff-mono v = by-view (λ v. (u w : ℤ) → T (leZ u w) → T (leZ (u -ℤ v) (w -ℤ v))) (λ e f. by-views (λ u w. T (leZ u w) → T (leZ (u -ℤ subℕ e f) (w -ℤ subℕ e f))) (λ a b c d t.
+    let h = le-down a b c d t in
+    subst T (sym (ap₂ leZ (sub-sub a b e f) (sub-sub c d e f))) (le-up (a + f) (b + e) (c + f) (d + e) (omega arith)))) v
+
 -- The offset is below - d where the deadline is before the clock.
 pub diff-late : (d : ℕ) (u v : ℤ) → ltZ (u -ℤ v) (negℤ (pos d)) ≡ ltZ (u +ℤ pos d) v
 diff-late n = by-views (λ u v. ltZ (u -ℤ v) (negℤ (pos n)) ≡ ltZ (u +ℤ pos n) v) (λ a b c d.

@@ -12,6 +12,7 @@ pub mod TableLaws
 pub mod Board8Laws
 pub mod StateLaws
 pub mod WholeLaws
+pub mod Grants
 pub mod Good
 pub mod Accounting
 pub mod Stage
@@ -22,3 +23,4 @@ pub mod RefineControl
 pub mod Refine
 pub mod Runs
 pub mod RunAccounts
+pub mod RunPrompt

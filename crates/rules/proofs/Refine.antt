@@ -25,7 +25,8 @@ use Rattle.rules.specs.Whole as Whole
 use Rattle.rules.proofs.Booleans.{and-both, or-right, eq-beq, true-is}
 use Rattle.rules.proofs.IndexLaws.{all-true}
 use Rattle.rules.proofs.Integers.{lt-pred}
-use Rattle.rules.proofs.WholeLaws.{AllHeld, Rests, grant-rests, waiting-held, emptied-at, emptied-kept}
+use Rattle.rules.proofs.WholeLaws.{AllHeld, emptied-at, emptied-kept}
+use Rattle.rules.proofs.Grants.{Rests, grant-rests, waiting-held}
 use Rattle.rules.proofs.Good.{Fit, HeldFit, Busy, Good, Input, fit-more, after, arrivals-busy, serving, served-held, served-kept, served-fit, clock-at, ended-frame}
 use Rattle.rules.proofs.TimeLaws.{cut-suc, fit-offset, fit-delay, fit-from}
 use Rattle.rules.proofs.AreaLaws.{value-digits, length-digits, length-packed, packet-perPort}

@@ -117,36 +117,21 @@ module _ (B : Board) (L : Laws B) where
         ap₂ (λ (o : ℤ) (d : ℕ). ltZ o (negℤ (pos d))) (ap₂ (offset (bits c)) (I .header p hp h) (stage-clock B L S A) ∙ offset-is c (call .times p) (w₀ .clock) (I .from p hp h) (I .soon p hp h)) delay-same
         ∙ diff-late (w₀ .entry i .delay) (call .times p) (w₀ .clock)
 
-    code-push : (h b d e : Bool) (y : Packet) → cond (not h) 0 (cond b 6 (cond d 7 (cond e 8 1))) ≡ arrivalCode (cond (not h) absent (cond b (refused 6) (cond d (refused 7) (cond e (refused 8) (accepted y)))))
-    unfolding arrivalCode
-    code-push false b d e y = refl
-    code-push true true d e y = refl
-    code-push true false true e y = refl
-    code-push true false false true y = refl
-    code-push true false false false y = refl
-
     -- Both routers answer an arrival alike.
     pub code-same : Tick.arrival B (r .state) (call .arriving) p k ≡ arrivalCode meets
-    unfolding Tick.arrival Whole.arrival
-    code-same = go (has (call .arriving) p) refl
+    unfolding Tick.arrival
+    code-same = go (has (call .arriving) p) refl ∙ sym (W.arrival-code c v (call .arriving) p k (call .times p))
       where
         b′ : Bool
         b′ = eqb (w₀ .entry i .mask) 0
 
-        d′ : Bool
-        d′ = ltZ (call .times p +ℤ pos (w₀ .entry i .delay)) (w₀ .clock)
-
-        e′ : Bool
-        e′ = eqb (length l) 0
-
-        go : (h : Bool) → has (call .arriving) p ≡ h
-            → cond (not h) 0 (cond (eqb (get (r .state) (routes i)) 0) 6 (cond (ltZ (offset (bits c) (stamp c k) (get (r .state) clock)) (negℤ (pos (get (r .state) (delay i))))) 7 (cond (eqb (get (r .state) free) 0) 8 1)))
-            ≡ arrivalCode (cond (not h) absent (cond b′ (refused 6) (cond d′ (refused 7) (cond e′ (refused 8) (accepted (made c v p k (call .times p)))))))
-        go false q = code-push false b′ d′ e′ (made c v p k (call .times p))
+        go : (h : Bool) → has (call .arriving) p ≡ h → _≡_ {A = ℕ}
+            (cond (not h) 0 (cond (eqb (get (r .state) (routes i)) 0) 6 (cond (ltZ (offset (bits c) (stamp c k) (get (r .state) clock)) (negℤ (pos (get (r .state) (delay i))))) 7 (cond (eqb (get (r .state) free) 0) 8 1))))
+            (cond (not h) 0 (cond b′ 6 (cond (ltZ (call .times p +ℤ pos (w₀ .entry i .delay)) (w₀ .clock)) 7 (cond (eqb (length l) 0) 8 1))))
+        go false q = refl
         go true q =
             ap (λ (n : ℕ). cond (eqb n 0) 6 (cond (ltZ (offset (bits c) (stamp c k) (get (r .state) clock)) (negℤ (pos (get (r .state) (delay i))))) 7 (cond (eqb (get (r .state) free) 0) 8 1))) routes-same
             ∙ ap₂ (λ (t : Bool) (n : ℕ). cond b′ 6 (cond t 7 (cond (eqb n 0) 8 1))) (late-same q) (stage-free B L S A)
-            ∙ code-push true b′ d′ e′ (made c v p k (call .times p))
 
     -- ---- an accepted packet
 

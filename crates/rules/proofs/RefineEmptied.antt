@@ -20,7 +20,7 @@ use Rattle.rules.specs.Tick.{withdrawn, withdrawals, returned}
 use Rattle.rules.specs.Whole.{Held, Router, waiting, isDue, due, settle, freed, emptied, isHeld}
 use Rattle.rules.proofs.BoardLaws.{Laws}
 use Rattle.rules.specs.Whole as Whole
-use Rattle.rules.proofs.IndexLaws.{count-change, counted-true, counted-false}
+use Rattle.rules.proofs.IndexLaws.{count-pos}
 use Rattle.rules.proofs.Integers.{ltb-iff}
 use Rattle.rules.proofs.Masks.{has-zero}
 use Rattle.rules.proofs.WholeLaws.{AllHeld, emptied-at, emptied-kept}
@@ -32,22 +32,7 @@ use Rattle.rules.proofs.Stage.{inner, Here, Settled, Stage, stage-sized
 -- Something held is counted.
 pub held-counts : (f : ℕ → Option Held) (i : ℕ) → i < 256 → isHeld (f i) ≡ true → 0 < stored f
 unfolding stored
-held-counts f i l h = go 256 l
-  where
-    go : (k : ℕ) → i < k → 0 < count k (λ j. isHeld (f j))
-    go k m =
-        let e = count-change (λ j. isHeld (f j) && not (eqb j i)) (λ j. isHeld (f j)) i k m (λ j n. ap (λ (t : Bool). isHeld (f j) && not t) (ne-eqb j i n) ∙ and-yes (isHeld (f j))) in
-        let a : counted (isHeld (f i)) ≡ 1 = ap counted h ∙ counted-true in
-        let b : counted (isHeld (f i) && not (eqb i i)) ≡ 0 = ap (λ (t : Bool). counted (isHeld (f i) && not t)) (eq-eqb i i refl) ∙ ap counted (and-no (isHeld (f i))) ∙ counted-false in
-        omega arith
-      where
-        and-yes : (t : Bool) → (t && true) ≡ t
-        and-yes true = refl
-        and-yes false = refl
-
-        and-no : (t : Bool) → (t && false) ≡ false
-        and-no true = refl
-        and-no false = refl
+held-counts f i l h = count-pos (λ j. isHeld (f j)) 256 i l h
 
 -- A place is emptied now.
 abbrev pub leaves : ℤ → Option Held → Bool

@@ -26,7 +26,8 @@ use Rattle.rules.proofs.IndexLaws.{Keys, Least, least-same}
 use Rattle.rules.proofs.Integers.{diff-le, diff-gt, diff-lt}
 use Rattle.rules.proofs.Masks.{has-zero}
 use Rattle.rules.proofs.WholeLaws as W
-use Rattle.rules.proofs.WholeLaws.{AllHeld, Rests, grant-rests, grant-place, waiting-held}
+use Rattle.rules.proofs.WholeLaws.{AllHeld}
+use Rattle.rules.proofs.Grants.{Rests, grant-rests, grant-place, waiting-held}
 use Rattle.rules.proofs.Good.{Good, HeldFit, Input, after, serving, served-frame, served-fit, served-kept}
 use Rattle.rules.proofs.TimeLaws.{fit-offset, fit-on-time, fit-early}
 use Rattle.rules.proofs.StateLaws.{only-trans, only-put, put-same, put-kind, put-index, stack-only}

@@ -17,7 +17,8 @@ use Rattle.rules.specs.Whole.{Packet, Held, Router, Arrival, absent, ref
 use Rattle.rules.proofs.Booleans.{none-some, and-left, and-right, is-true, true-is, false-is}
 use Rattle.rules.proofs.IndexLaws.{count-none, count-only, count-some}
 use Rattle.rules.proofs.Integers.{antisym, leZ-refl, leZ-trans, suc-le, suc-lt, irreflexive, lt-of, before-horizon, swap-horizon}
-use Rattle.rules.proofs.WholeLaws.{AllHeld, admitted-all, Rests, grant-rests, waiting-held, emptied-held}
+use Rattle.rules.proofs.WholeLaws.{AllHeld, admitted-all, emptied-held}
+use Rattle.rules.proofs.Grants.{Rests, grant-rests, waiting-held}
 use Rattle.rules.proofs.Good.{Good, after, accepted-made, serving, chosen, clock-at, served-all, served-fit, served-frame, ended-frame}
 use Rattle.rules.proofs.Accounting.{taken, for-port, tick-left}
 use Rattle.rules.proofs.Runs.{next, Ticking, Run, rest, quiet, ticks}
@@ -150,7 +151,8 @@ module _ (c : ℕ) where
 
     -- ---- what it may do with a packet
 
-    fit-at : (p q : ℕ) → q ≤ 5 → (i : ℕ) (x : Packet) → i < 256 → waiting (then q .place i) p ≡ some x → T (leZ (x .arrived) (r .clock)) × T (leZ (r .clock) (x .deadline))
+    -- What waits fits the clock.
+    pub fit-at : (p q : ℕ) → q ≤ 5 → (i : ℕ) (x : Packet) → i < 256 → waiting (then q .place i) p ≡ some x → T (leZ (x .arrived) (r .clock)) × T (leZ (r .clock) (x .deadline))
     fit-at p q hq i x l e =
         let (h, ev, ex, b) = waiting-held (then q .place i) p x e in
         let f = served-fit c r (d .call) (t .good) (t .input) q hq i l h ev in

@@ -1,5 +1,5 @@
 -- What every step of the router that never turns over keeps. Assumes nothing.
-use Prim.Native.Nat.{ℕ, zero, suc, _<_, _≤_}
+use Prim.Native.Nat.{ℕ, zero, suc, _+_, _<_, _≤_}
 use mathlib.Core.Path.{_≡_, refl, sym, ap, subst, _∙_}
 use mathlib.Core.Bool.{Bool, true, false, cond, not, _&&_, _||_, true≢false}
 use mathlib.Core.Logic.{_≢_, _⊎_, inl, inr}
@@ -9,15 +9,15 @@ use native.Mathlib.Decide.{ℕ-discrete}
 use native.Mathlib.Omega.{arith}
 use lib.ListN.{length}
 use lib.Dec.{ltb, eqb}
-use lib.IntN.{ℤ, pos, _+ℤ_, _-ℤ_}
-use lib.Signed.{leZ, ltZ}
+use lib.IntN.{ℤ, pos, _+ℤ_}
+use lib.Signed.{ltZ}
 use borrow.Author.Tests.{eq-eqb, ne-eqb, lt-ltb, le-ltb}
 use Rattle.rules.specs.Account.{stored, Kept}
 use Rattle.rules.specs.Areas.{byte, packet, payload, has, without, elem, distinct, Grant, nobody, bestEffort, onTime, early}
-use Rattle.rules.specs.Indices.{least, counted}
-use Rattle.rules.specs.Whole.{Packet, Held, Router, withPlaces, put, Arrival, absent, refused, accepted, placed, admitted, waiting, filter, byDeadline, byTime, granted, grant, lose, sent, isDue, settle, freed, emptied, arrival, isHeld}
+use Rattle.rules.specs.Indices.{counted}
+use Rattle.rules.specs.Whole.{Packet, Held, Router, withPlaces, put, Arrival, absent, refused, accepted, placed, admitted, lose, sent, isDue, settle, freed, emptied, arrival, arrivalCode, isHeld}
 use Rattle.rules.proofs.Booleans.{some-inj, none-some, and-right}
-use Rattle.rules.proofs.IndexLaws.{least-in, count-change, count-same, counted-false, counted-true}
+use Rattle.rules.proofs.IndexLaws.{count-change, count-same, counted-false, counted-true}
 use Rattle.rules.proofs.Integers.{ltb-iff}
 
 -- ---- one place changed
@@ -80,66 +80,6 @@ module _ (P : Held → Type 0) where
   sent-all p (onTime (i, x)) w f b a = put-all (w .place) i (lose p (w .place i)) (lose-all p f (w .place i) (a i (b i x (inl refl)))) a
   sent-all p (early (i, x)) w f b a = put-all (w .place) i (lose p (w .place i)) (lose-all p f (w .place i) (a i (b i x (inr refl)))) a
 
--- ---- who is granted a port
-
--- What a grant of port p at the router r rests on.
-abbrev pub Rests : Router → ℕ → Grant (ℕ × Packet) → Type 0
-Rests r p nobody = Unit {0}
-Rests r p bestEffort = Unit {0}
-Rests r p (onTime (i, x)) = (i < 256) × (waiting (r .place i) p ≡ some x) × (leZ (x .time) (r .clock) ≡ true)
-Rests r p (early (i, x)) = (i < 256) × (waiting (r .place i) p ≡ some x) × (ltZ (r .clock) (x .time) ≡ true) × (leZ (x .time -ℤ r .clock) (pos (r .horizon p)) ≡ true)
-
-filter-some : (t : Packet → Bool) (v : Option Packet) (x : Packet) → filter t v ≡ some x → (v ≡ some x) × (t x ≡ true)
-unfolding filter
-filter-some t none x e = none-some e
-filter-some t (some y) x e = go (t y) refl e
-  where
-    go : (b : Bool) → t y ≡ b → cond b (some y) none ≡ some x → (some y ≡ some x) × (t x ≡ true)
-    go true q e = (e, sym (ap t (some-inj e)) ∙ q)
-    go false q e = none-some e
-
--- By the two choices, and what the least is.
-pub grant-rests : (r : Router) (b p : ℕ) → Rests r p (grant r b p)
-unfolding grant granted
-grant-rests r b p = go (least byDeadline readyAt 256) refl (has b p) (least byTime earlyAt 256) refl
-  where
-    readyAt : ℕ → Option Packet
-    readyAt i = filter (λ x. leZ (x .time) (r .clock)) (waiting (r .place i) p)
-
-    earlyAt : ℕ → Option Packet
-    earlyAt i = filter (λ x. ltZ (r .clock) (x .time)) (waiting (r .place i) p)
-
-    cases : (w : ℕ × Packet) → least byTime earlyAt 256 ≡ some w → (t : Bool) → leZ (w .1 .time -ℤ r .clock) (pos (r .horizon p)) ≡ t → Rests r p (cond t (early w) nobody)
-    cases w e true q =
-        let (l, f) = least-in byTime earlyAt 256 (w .0) (w .1) e in
-        let (u, v) = filter-some (λ x. ltZ (r .clock) (x .time)) (waiting (r .place (w .0)) p) (w .1) f in
-        (l, u, v, q)
-    cases w e false q = tt
-
-    go : (o : Option (ℕ × Packet)) → least byDeadline readyAt 256 ≡ o → (t : Bool) → (e : Option (ℕ × Packet)) → least byTime earlyAt 256 ≡ e → Rests r p (granted o t e (r .clock) (r .horizon p))
-    go (some w) q t e s =
-        let (l, f) = least-in byDeadline readyAt 256 (w .0) (w .1) q in
-        let (u, v) = filter-some (λ x. leZ (x .time) (r .clock)) (waiting (r .place (w .0)) p) (w .1) f in
-        (l, u, v)
-    go none q true e s = tt
-    go none q false none s = tt
-    go none q false (some w) s = cases w s (leZ (w .1 .time -ℤ r .clock) (pos (r .horizon p))) refl
-
--- It is one of the 256 places.
-pub grant-place : (r : Router) (p : ℕ) (g : Grant (ℕ × Packet)) → Rests r p g → (i : ℕ) (x : Packet) → (g ≡ onTime (i, x)) ⊎ (g ≡ early (i, x)) → i < 256
-grant-place r p g h i x (inl e) = (subst (Rests r p) e h) .0
-grant-place r p g h i x (inr e) = (subst (Rests r p) e h) .0
-
--- A waiting packet is held, with the port left.
-pub waiting-held : (v : Option Held) (p : ℕ) (x : Packet) → waiting v p ≡ some x → (h : Held) × (v ≡ some h) × (h .packet ≡ x) × (has (h .left) p ≡ true)
-unfolding waiting
-waiting-held none p x e = none-some e
-waiting-held (some h) p x e = go (has (h .left) p) refl e
-  where
-    go : (t : Bool) → has (h .left) p ≡ t → cond t (some (h .packet)) none ≡ some x → (k : Held) × (some h ≡ some k) × (k .packet ≡ x) × (has (k .left) p ≡ true)
-    go true q e = (h, refl, some-inj e, q)
-    go false q e = none-some e
-
 -- ---- arrivals
 
 module _ (c : ℕ) where
@@ -178,6 +118,35 @@ module _ (c : ℕ) where
       go true false true z a b d f q = let n : _≡_ {A = ℕ} 0 1 = cc in absurd (omega arith)
       go true false false true a b d f q = let n : _≡_ {A = ℕ} 0 1 = cc in absurd (omega arith)
       go true false false false a b d f q = record { here = a; open-entry = b; in-time = d; room = f; is = cc }
+
+  -- Its answer, question by question.
+  pub arrival-code : (r : Router) (arriving p : ℕ) (k : List ℕ) (u : ℤ)
+      → arrivalCode (arrival c r arriving p k u) ≡ cond (not (has arriving p)) 0 (cond (eqb (r .entry (byte k 0) .mask) 0) 6 (cond (ltZ (u +ℤ pos (r .entry (byte k 0) .delay)) (r .clock)) 7 (cond (eqb (length (r .free)) 0) 8 1)))
+  unfolding arrival arrivalCode
+  arrival-code r arriving p k u = go (has arriving p) (eqb (r .entry (byte k 0) .mask) 0) (ltZ (u +ℤ pos (r .entry (byte k 0) .delay)) (r .clock)) (eqb (length (r .free)) 0)
+    where
+      go : (h b d e : Bool) → arrivalCode (cond (not h) absent (cond b (refused 6) (cond d (refused 7) (cond e (refused 8) (accepted (made r p k u)))))) ≡ cond (not h) 0 (cond b 6 (cond d 7 (cond e 8 1)))
+      go false b d e = refl
+      go true true d e = refl
+      go true false true e = refl
+      go true false false true = refl
+      go true false false false = refl
+
+  -- An accepted packet takes a free place, a refused one takes none.
+  pub arrival-free : (r : Router) (arriving p : ℕ) (k : List ℕ) (u : ℤ) → let a = arrival c r arriving p k u in length (admitted a r .free) + counted (eqb (arrivalCode a) 1) ≡ length (r .free)
+  unfolding arrival admitted placed arrivalCode counted
+  arrival-free r arriving p k u = go (has arriving p) (eqb (r .entry (byte k 0) .mask) 0) (ltZ (u +ℤ pos (r .entry (byte k 0) .delay)) (r .clock)) (eqb (length (r .free)) 0) refl
+    where
+      first : (l : List ℕ) → eqb (length l) 0 ≡ false → length (placed l (made r p k u) r .free) + 1 ≡ length l
+      first [] e = absurd (true≢false e)
+      first (i ∷ l) e = omega arith
+
+      go : (h b d e : Bool) → eqb (length (r .free)) 0 ≡ e → let a = cond (not h) absent (cond b (refused 6) (cond d (refused 7) (cond e (refused 8) (accepted (made r p k u))))) in length (admitted a r .free) + counted (eqb (arrivalCode a) 1) ≡ length (r .free)
+      go false b d e q = omega arith
+      go true true d e q = omega arith
+      go true false true e q = omega arith
+      go true false false true q = omega arith
+      go true false false false q = first (r .free) q
 
 -- ---- free places
 
