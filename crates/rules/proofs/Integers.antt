@@ -147,4 +147,3 @@ pub swap-horizon : (u t : ℤ) (h : ℕ) → T (leZ (u -ℤ t) (pos h)) → T (l
 swap-horizon u t h = by-views (λ u t. T (leZ (u -ℤ t) (pos h)) → T (leZ (u -ℤ pos h) t)) (λ a b c d l.
     let k = le-down (a + d) (b + c) h 0 (subst T (ap₂ leZ (sub-sub a b c d) (pos-sub h)) l) in
     subst (λ (z : ℤ). T (leZ z (subℕ c d))) (sym (ap (λ (z : ℤ). subℕ a b -ℤ z) (pos-sub h) ∙ sub-sub a b h 0)) (le-up (a + 0) (b + h) c d (omega arith))) u t
-

@@ -24,3 +24,6 @@ pub mod Refine
 pub mod Runs
 pub mod RunAccounts
 pub mod RunPrompt
+pub mod Agreement
+pub mod Feed
+pub mod Theorem

@@ -12,7 +12,7 @@ use lib.IntN.{ℤ, pos, negℤ, _-ℤ_}
 use lib.Signed.{leZ}
 use borrow.Author.Tests.{eq-eqb, ne-eqb, le-leb, lt-ltb, lt-ltb}
 use Rattle.rules.specs.Account.{Kept}
-use Rattle.rules.specs.Areas.{bits, half, value, digits, packet, stamp, packed, perPort, answersArea, Grant, nobody, bestEffort, onTime, early, elem, distinct, Store}
+use Rattle.rules.specs.Areas.{bits, half, value, digits, packet, stamp, packed, perPort, answersArea, Grant, nobody, bestEffort, onTime, early, elem, distinct, Store, Reply}
 use Rattle.rules.specs.Board.{Board, Field, clock, horizon, latch, free, idle, time, deadline, mask, outgoing, delay, routes}
 use Rattle.rules.specs.Clock.{cut, plus, minus, offset}
 use Rattle.rules.specs.Demand3.{PlaceShown}
@@ -268,7 +268,7 @@ module _ (B : Board) (L : Laws B) where
       grant-length q h = granted-length q h (Whole.grant (serving c w call q) b q) (grant-rests (serving c w call q) b q)
 
       -- The outgoing areas are equal.
-      pub outgoing-same : Tick.ticked B r (call .arriving) b (call .arrivals) .reply .outgoing ≡ outgoingBytes c (Whole.ticked c w call .report)
+      outgoing-same : Tick.ticked B r (call .arriving) b (call .arrivals) .reply .outgoing ≡ outgoingBytes c (Whole.ticked c w call .report)
       unfolding Tick.ticked Whole.ticked outgoingBytes
       outgoing-same = perPort-same (λ p. Tick.grantBytes (r₁ .memory) (Tick.grant B (served B p b (r₁ .state)) b p)) (λ p. Whole.grantBytes c (Whole.grant (serving c w call p) b p)) (λ p l. served-bytes B L (R .settled) G call I A₁ p l)
 
@@ -284,6 +284,11 @@ module _ (B : Board) (L : Laws B) where
       count-same p l = withdrawals-same B L (R .settled) w₂ A₂ K₂ F₂ (r₁ .state) was p l ∙ ap (λ (z : ℤ). length (Whole.withdrawn z (w₂ .place) p 256)) (sym (clock-at c w call 5))
 
       -- The answers are equal.
-      pub answers-same : Tick.ticked B r (call .arriving) b (call .arrivals) .reply .answers ≡ answerBytes (Whole.ticked c w call .report)
+      answers-same : Tick.ticked B r (call .arriving) b (call .arrivals) .reply .answers ≡ answerBytes (Whole.ticked c w call .report)
       unfolding Tick.ticked Whole.ticked answerBytes
       answers-same = answers-area (λ p l. served-code B L (R .settled) G call I A₁ p l) (λ p l. arrived-code B L (R .settled) G call I rel-stage p l) count-same
+
+      -- So is what the caller sees.
+      pub reply-same : Tick.ticked B r (call .arriving) b (call .arrivals) .reply ≡ record { number = 0; outgoing = outgoingBytes c (Whole.ticked c w call .report); answers = answerBytes (Whole.ticked c w call .report) }
+      unfolding Tick.ticked
+      reply-same = ap₂ (λ (x y : List ℕ). record { number = 0; outgoing = x; answers = y }) outgoing-same answers-same
