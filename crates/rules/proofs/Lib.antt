@@ -27,3 +27,4 @@ pub mod RunPrompt
 pub mod Agreement
 pub mod Feed
 pub mod Theorem
+pub mod Room

@@ -1,0 +1,168 @@
+-- The free count and the slots that hold a packet make 256 in a sound state, and no accepted arrival makes them more. Assumes nothing.
+use Prim.Native.Nat.{ℕ, zero, suc, _+_, _-_, _<_, _≤_}
+use mathlib.Core.Path.{_≡_, refl, sym, ap, ap₂, _∙_}
+use mathlib.Core.Bool.{Bool, true, false, cond, not, _&&_, _||_, Bool·beq, true≢false}
+use mathlib.Core.Logic.{_≢_}
+use mathlib.Core.List.{List, [], _∷_}
+use native.Mathlib.Decide.{ℕ-discrete}
+use native.Mathlib.Omega.{arith}
+use lib.ListN.{length}
+use lib.Dec.{leb, eqb}
+use borrow.Author.Tests.{eq-eqb, ne-eqb, eqb-true}
+use Rattle.rules.specs.Areas.{Store, byte, bits, stamp, elem, distinct}
+use Rattle.rules.specs.Board.{Board, free, idle, time, deadline, mask, delay, routes}
+use Rattle.rules.specs.Clock.{plus}
+use Rattle.rules.specs.Indices.{all, count, counted, topFirst}
+use Rattle.rules.specs.Questions.{stack, listed, stackSound}
+use Rattle.rules.specs.Tick.{placed}
+use Rattle.rules.proofs.Booleans.{and-left, and-right, not-false, beq-eq}
+use Rattle.rules.proofs.BoardLaws.{Laws}
+use Rattle.rules.proofs.IndexLaws.{all-at, count-same, count-change, count-none, counted-true, counted-false}
+
+-- ---- counts
+
+-- A test and its opposite count every index.
+count-not : (f : ℕ → Bool) (k : ℕ) → count k f + count k (λ i. not (f i)) ≡ k
+unfolding count counted
+count-not f zero = refl
+count-not f (suc k) = let a = count-not f k in go (f k) a
+  where
+    go : (t : Bool) → count k f + count k (λ i. not (f i)) ≡ k → count k f + cond t 1 0 + (count k (λ i. not (f i)) + cond (not t) 1 0) ≡ suc k
+    go true a = omega arith
+    go false a = omega arith
+
+-- A test that holds at one index more counts at most one more.
+count-one-more : (f g : ℕ → Bool) (i k : ℕ) → ((j : ℕ) → j < k → j ≢ i → f j ≡ g j) → count k f ≤ count k g + 1
+unfolding count counted
+count-one-more f g i zero h = omega arith
+count-one-more f g i (suc k) h = go (ℕ-discrete k i) (count-one-more f g i k (λ j l. h j (omega arith)))
+  where
+    one : (t : Bool) → cond t 1 0 ≤ 1
+    one true = omega arith
+    one false = omega arith
+
+    go : Dec (k ≡ i) → count k f ≤ count k g + 1 → count k f + cond (f k) 1 0 ≤ count k g + cond (g k) 1 0 + 1
+    go (yes e) a = let b = count-same f g k (λ j l. h j (omega arith) (omega arith)) in let d = one (f k) in omega arith
+    go (no n) a = let e = ap counted (h k (omega arith) n) in omega arith
+
+-- ---- lists of different slots
+
+pub elem-first : (i : ℕ) (l : List ℕ) → elem i (i ∷ l) ≡ true
+unfolding elem
+elem-first i l = rw (eq-eqb i i refl)
+
+pub elem-other : (i j : ℕ) (l : List ℕ) → j ≢ i → elem j (i ∷ l) ≡ elem j l
+unfolding elem
+elem-other i j l n = rw (ne-eqb j i n)
+
+-- What is in a list by indices stands at one of them.
+elem-topFirst : (f : ℕ → ℕ) (n x : ℕ) → elem x (topFirst f n) ≡ true → (j : ℕ) × (j < n) × (f j ≡ x)
+unfolding elem topFirst
+elem-topFirst f zero x e = absurd (true≢false (sym e))
+elem-topFirst f (suc n) x e = go (eqb x (f n)) refl e (elem-topFirst f n x)
+  where
+    go : (t : Bool) → eqb x (f n) ≡ t → (t || elem x (topFirst f n)) ≡ true → (elem x (topFirst f n) ≡ true → (j : ℕ) × (j < n) × (f j ≡ x)) → (j : ℕ) × (j < suc n) × (f j ≡ x)
+    go true q e h = (n, omega arith, sym (eqb-true x (f n) q))
+    go false q e h = let (j, l, k) = h e in (j, omega arith, k)
+
+length-topFirst : (f : ℕ → ℕ) (n : ℕ) → length (topFirst f n) ≡ n
+unfolding topFirst
+length-topFirst f zero = refl
+length-topFirst f (suc n) = ap suc (length-topFirst f n)
+
+-- A list of different slots has as many entries as there are slots in it: one entry after the other.
+count-elem : (l : List ℕ) → distinct l ≡ true → ((x : ℕ) → elem x l ≡ true → x < 256) → count 256 (λ i. elem i l) ≡ length l
+unfolding distinct
+count-elem [] d h = count-none (λ i. elem i []) 256 (λ i l. unfold elem in refl)
+count-elem (x ∷ l) d h =
+    let a = count-elem l (and-right (not (elem x l)) (distinct l) d) (λ y e. h y (later y e)) in
+    let b = count-change (λ i. elem i (x ∷ l)) (λ i. elem i l) x 256 (h x (elem-first x l)) (λ j n. elem-other x j l n) in
+    let e : counted (elem x l) ≡ 0 = ap counted (not-false (elem x l) (and-left (not (elem x l)) (distinct l) d)) ∙ counted-false in
+    let f : counted (elem x (x ∷ l)) ≡ 1 = ap counted (elem-first x l) ∙ counted-true in
+    omega arith
+  where
+    later : (y : ℕ) → elem y l ≡ true → elem y (x ∷ l) ≡ true
+    later y e = go (ℕ-discrete y x)
+      where
+        go : Dec (y ≡ x) → elem y (x ∷ l) ≡ true
+        go (yes q) = ap (λ (z : ℕ). elem z (x ∷ l)) q ∙ elem-first x l
+        go (no n) = elem-other x y l n ∙ e
+
+module _ (B : Board) (L : Laws B) where
+  open Board B using (clockBytes as c, stateLength, get, put)
+
+  -- Slot i holds a packet.
+  abbrev pub held : List ℕ → ℕ → Bool
+  held s i = not (eqb (get s (mask i)) 0)
+
+  -- The free count and the slots that hold a packet.
+  abbrev pub used : List ℕ → ℕ
+  used s = get s free + count 256 (held s)
+
+  -- In a sound state they make 256, where the stack's entries are slots.
+  pub sound-used : (s : List ℕ) → stackSound B s ≡ true → ((j : ℕ) → j < get s free → get s (idle j) < 256) → used s ≡ 256
+  unfolding stackSound stack
+  sound-used s e small =
+      let l = stack B s in
+      let a = and-right (leb (get s free) 256) (distinct l && all 256 (listed B s)) e in
+      let d = and-left (distinct l) (all 256 (listed B s)) a in
+      let m = and-right (distinct l) (all 256 (listed B s)) a in
+      let q = count-same (λ i. elem i l) (λ i. eqb (get s (mask i)) 0) 256 (λ i h. beq-eq (elem i l) (eqb (get s (mask i)) 0) (all-at (listed B s) 256 i m h)) in
+      let n = count-not (λ i. eqb (get s (mask i)) 0) 256 in
+      let k = count-elem l d (λ x h. within x (elem-topFirst (λ i. get s (idle i)) (get s free) x h)) in
+      let z = length-topFirst (λ i. get s (idle i)) (get s free) in
+      omega arith
+    where
+      within : (x : ℕ) → (j : ℕ) × (j < get s free) × (get s (idle j) ≡ x) → x < 256
+      within x (j, h, e) = let a = small j h in omega arith
+
+  -- An accepted packet takes one from the free count, and gives one slot a packet.
+  pub placed-used : (r : Store) (k : List ℕ) → length (r .state) ≡ stateLength → 0 < get (r .state) free → get (r .state) (idle (get (r .state) free - 1)) < 256 → used (placed B r k .state) ≤ used (r .state)
+  unfolding placed
+  placed-used r k sized some hi =
+      let more = count-one-more (held s₄) (held s) i 256 (λ j l n. ap (λ (m : ℕ). not (eqb m 0)) (mask-other j l n)) in
+      omega (arith, free-is)
+    where
+      s : List ℕ
+      s = r .state
+
+      n : ℕ
+      n = get s free - 1
+
+      i : ℕ
+      i = get s (idle n)
+
+      d : ℕ
+      d = plus (bits c) (stamp c k) (get s (delay (byte k 0)))
+
+      m : ℕ
+      m = get s (routes (byte k 0))
+
+      s₁ : List ℕ
+      s₁ = put s free n
+
+      s₂ : List ℕ
+      s₂ = put s₁ (time i) (stamp c k)
+
+      s₃ : List ℕ
+      s₃ = put s₂ (deadline i) d
+
+      s₄ : List ℕ
+      s₄ = put s₃ (mask i) m
+
+      z₁ : length s₁ ≡ stateLength
+      z₁ = L .length-put s free n ∙ sized
+
+      z₂ : length s₂ ≡ stateLength
+      z₂ = L .length-put s₁ (time i) (stamp c k) ∙ z₁
+
+      z₃ : length s₃ ≡ stateLength
+      z₃ = L .length-put s₂ (deadline i) d ∙ z₂
+
+      free-is : get s₄ free ≡ n
+      free-is = L .get-put s₃ (mask i) m free z₃ hi (omega arith) ∙ L .get-put s₂ (deadline i) d free z₂ hi (omega arith) ∙ L .get-put s₁ (time i) (stamp c k) free z₁ hi (omega arith) ∙ L .get-put s free n free sized (omega arith) (omega arith)
+
+      mask-other : (j : ℕ) → j < 256 → j ≢ i → get s₄ (mask j) ≡ get s (mask j)
+      mask-other j l ne =
+          L .get-put s₃ (mask i) m (mask j) z₃ hi l ∙ ap (λ (t : Bool). cond t m (get s₃ (mask j))) (ne-eqb i j (λ e. ne (sym e)))
+          ∙ L .get-put s₂ (deadline i) d (mask j) z₂ hi l ∙ L .get-put s₁ (time i) (stamp c k) (mask j) z₁ hi l ∙ L .get-put s free n (mask j) sized (omega arith) l
