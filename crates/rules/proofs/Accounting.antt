@@ -1,6 +1,6 @@
 -- What a tick does with a packet on a port: as often as it is left before and accepted, it is left after, sent and withdrawn. Assumes nothing.
 use Prim.Native.Nat.{ℕ, zero, suc, _+_, _<_, _≤_}
-use mathlib.Core.Path.{_≡_, refl, sym, ap, ap₂, subst, _∙_}
+use mathlib.Core.Path.{_≡_, refl, sym, ap, subst, _∙_}
 use mathlib.Core.Bool.{Bool, true, false, cond, _&&_, _||_, true≢false, and-false}
 use mathlib.Core.List.{List, [], _∷_, _++_}
 use mathlib.Core.Option.{Option, none, some}
@@ -11,14 +11,14 @@ use lib.Dec.{eqb}
 use lib.IntN.{ℤ}
 use borrow.Author.Tests.{eq-eqb, ne-eqb, eqb-true, eqb-false, le-ltb}
 use Rattle.rules.specs.Account.{same, isSent, times, isLeft, leftOn, Kept}
-use Rattle.rules.specs.Areas.{packet, has, without, Grant, nobody, bestEffort, onTime, early}
+use Rattle.rules.specs.Areas.{packet, has, Grant, nobody, bestEffort, onTime, early}
 use Rattle.rules.specs.Indices.{count, counted}
-use Rattle.rules.specs.Whole.{Packet, Held, Router, TickCall, put, Arrival, absent, refused, accepted, placed, admitted, waiting, grant, lose, sent, served, isDue, due, withdrawn, settle, emptied, meets, arrivals}
-use Rattle.rules.proofs.IndexLaws.{count-change, count-only, counted-false}
+use Rattle.rules.specs.Whole.{Packet, Held, Router, TickCall, Arrival, absent, refused, accepted, placed, admitted, waiting, lose, sent, served, isDue, due, withdrawn, settle, emptied, meets, arrivals}
+use Rattle.rules.proofs.IndexLaws.{count-only, counted-false}
 use Rattle.rules.proofs.Masks.{has-without-same, has-without-other, has-zero}
-use Rattle.rules.proofs.WholeLaws.{AllHeld, fresh-held, loses, put-same, put-other, first-place, first-empty, emptied-at}
+use Rattle.rules.proofs.WholeLaws.{AllHeld, tally, tally-put, fresh-held, loses, lost-in, first-place, first-empty, emptied-at}
 use Rattle.rules.proofs.Grants.{Rests, grant-rests, waiting-held}
-use Rattle.rules.proofs.Good.{Good, Input, after, accepted-made, arrivals-kept, serving, chosen, served-fit}
+use Rattle.rules.proofs.Good.{Good, Input, after, accepted-made, arrivals-kept, serving, chosen, serving-by, served-fit}
 
 -- The arrival is x's, and of a packet with the test m.
 unfoldable pub taken : (Packet → Bool) → Packet → Arrival → Bool
@@ -32,36 +32,24 @@ for-port p y = has (y .mask) p
 abbrev pub any : Packet → Bool
 any y = true
 
--- ---- the places with a test
+-- ---- what a tick does to the places with a test
 
-module _ (t : Option Held → Bool) where
-  -- How many there are.
-  unfoldable tally : (ℕ → Option Held) → ℕ
-  tally f = count 256 (λ i. t (f i))
-
-  -- One place changed.
-  tally-put : (f : ℕ → Option Held) (i : ℕ) (v : Option Held) → i < 256 → tally (put f i v) + counted (t (f i)) ≡ tally f + counted (t v)
-  unfolding tally
-  tally-put f i v l =
-      count-change (λ j. t (put f i v j)) (λ j. t (f j)) i 256 l (λ j n. ap t (put-other f i v j n))
-      ∙ ap (λ y. count 256 (λ j. t (f j)) + counted (t y)) (put-same f i v)
-
-  -- An arrival adds the packet that it brings: it takes an empty place.
-  admitted-tally : (m : Packet → Bool) (x : Packet) → t none ≡ false → ((y : Packet) → t (some (fresh-held y)) ≡ (m y && same x y)) → (a : Arrival) (w : Router) → Kept (w .place) (w .free)
-      → ((y : Packet) → a ≡ accepted y → eqb (length (w .free)) 0 ≡ false) → tally (admitted a w .place) ≡ tally (w .place) + counted (taken m x a)
-  unfolding admitted placed taken counted
-  admitted-tally m x e₀ e₁ absent w K r = omega arith
-  admitted-tally m x e₀ e₁ (refused q) w K r = omega arith
-  admitted-tally m x e₀ e₁ (accepted y) w K r = go (w .free) refl
-    where
-      go : (l : List ℕ) → w .free ≡ l → tally (placed l y w .place) ≡ tally (w .place) + counted (m y && same x y)
-      go [] e = absurd (eqb-false (length (w .free)) 0 (r y refl) (ap length e))
-      go (i ∷ l) e =
-          let K′ = subst (Kept (w .place)) e K in
-          let h = tally-put (w .place) i (some (fresh-held y)) (first-place K′) in
-          let a : counted (t (w .place i)) ≡ 0 = ap counted (ap t (first-empty K′) ∙ e₀) ∙ counted-false in
-          let b : counted (t (some (fresh-held y))) ≡ counted (m y && same x y) = ap counted (e₁ y) in
-          omega arith
+-- An arrival adds the packet that it brings: it takes an empty place.
+admitted-tally : (t : Option Held → Bool) (m : Packet → Bool) (x : Packet) → t none ≡ false → ((y : Packet) → t (some (fresh-held y)) ≡ (m y && same x y)) → (a : Arrival) (w : Router) → Kept (w .place) (w .free)
+    → ((y : Packet) → a ≡ accepted y → eqb (length (w .free)) 0 ≡ false) → tally t (admitted a w .place) ≡ tally t (w .place) + counted (taken m x a)
+unfolding admitted placed taken counted
+admitted-tally t m x e₀ e₁ absent w K r = omega arith
+admitted-tally t m x e₀ e₁ (refused q) w K r = omega arith
+admitted-tally t m x e₀ e₁ (accepted y) w K r = go (w .free) refl
+  where
+    go : (l : List ℕ) → w .free ≡ l → tally t (placed l y w .place) ≡ tally t (w .place) + counted (m y && same x y)
+    go [] e = absurd (eqb-false (length (w .free)) 0 (r y refl) (ap length e))
+    go (i ∷ l) e =
+        let K′ = subst (Kept (w .place)) e K in
+        let h = tally-put t (w .place) i (some (fresh-held y)) (first-place K′) in
+        let a = ap counted (ap t (first-empty K′) ∙ e₀) in
+        let b = ap counted (e₁ y) in
+        omega arith
 
 -- ---- the places where x is left on port p
 
@@ -69,6 +57,7 @@ module _ (p : ℕ) (x : Packet) where
   abbrev left : Option Held → Bool
   left v = isLeft x (waiting v p)
 
+  -- x is left there with its port.
   left-some : (h : Held) → left (some h) ≡ (has (h .left) p && same x (h .packet))
   unfolding isLeft waiting
   left-some h = go (has (h .left) p)
@@ -82,37 +71,32 @@ module _ (p : ℕ) (x : Packet) where
   left-none = refl
 
   module _ (hp : p < 5) where
+    -- Losing port q takes x from port p only where q is p and the packet that waits is x.
     lose-left : (q : ℕ) → q < 5 → (v : Option Held) (y : Packet) → waiting v q ≡ some y → ((h : Held) → v ≡ some h → h .left ≤ 31)
         → counted (left (lose q v)) + counted (eqb q p && same x y) ≡ counted (left v)
-    unfolding lose
-    lose-left q hq v y e m = go (waiting-held v q y e) (ℕ-discrete p q)
+    unfolding lose counted
+    lose-left q hq v y e m = let (h, ev, ey, t) = waiting-held v q y e in go h ev ey t (ℕ-discrete p q)
       where
-        go : (h : Held) × (v ≡ some h) × (h .packet ≡ y) × (has (h .left) q ≡ true) → Dec (p ≡ q) → counted (left (lose q v)) + counted (eqb q p && same x y) ≡ counted (left v)
-        go (h, ev, ey, t) (yes d) =
-            let a : left (lose q v) ≡ false = ap (λ z. left (lose q z)) ev ∙ left-some (loses q h) ∙ ap (λ (b : Bool). b && same x (h .packet)) (ap (has (without (h .left) q)) d ∙ has-without-same (h .left) q (m h ev) hq) in
-            let b : left v ≡ same x y = ap (λ z. left z) ev ∙ left-some h ∙ ap₂ (λ (s : Bool) (z : Packet). s && same x z) (ap (has (h .left)) d ∙ t) ey in
-            let f : (eqb q p && same x y) ≡ same x y = ap (λ (s : Bool). s && same x y) (eq-eqb q p (sym d)) in
-            omega (arith, ap counted a, ap counted b, ap counted f, counted-false)
-        go (h, ev, ey, t) (no d) =
-            let a : left (lose q v) ≡ (has (h .left) p && same x (h .packet)) = ap (λ z. left (lose q z)) ev ∙ left-some (loses q h) ∙ ap (λ (b : Bool). b && same x (h .packet)) (has-without-other (h .left) q p (m h ev) hq hp d) in
-            let b : left v ≡ (has (h .left) p && same x (h .packet)) = ap (λ z. left z) ev ∙ left-some h in
-            let f : (eqb q p && same x y) ≡ false = ap (λ (s : Bool). s && same x y) (ne-eqb q p (λ k. d (sym k))) in
-            omega (arith, ap counted a, ap counted b, ap counted f, counted-false)
+        go : (h : Held) → v ≡ some h → h .packet ≡ y → has (h .left) q ≡ true → Dec (p ≡ q) → counted (left (lose q v)) + counted (eqb q p && same x y) ≡ counted (left v)
+        go h ev ey t (yes d) = rw (ev, ← ey, left-some (loses q h), left-some h, d, has-without-same (h .left) q (m h ev) hq, t, eq-eqb q q refl) (omega arith)
+        go h ev ey t (no d) = rw (ev, ← ey, left-some (loses q h), left-some h, has-without-other (h .left) q p (m h ev) hq hp d, ne-eqb q p (λ k. d (sym k))) (omega arith)
 
+    -- Where a packet y waits for port q, that port is lost once.
+    lost-left : (q : ℕ) → q < 5 → (w : Router) → AllHeld (λ h. h .left ≤ 31) (w .place) → (i : ℕ) (y : Packet) → i < 256 → waiting (w .place i) q ≡ some y
+        → leftOn p x (lost-in i q w .place) + counted (eqb q p && same x y) ≡ leftOn p x (w .place)
+    unfolding leftOn tally
+    lost-left q hq w m i y l e = let h = tally-put left (w .place) i (lose q (w .place i)) l in let k = lose-left q hq (w .place i) y e (m i l) in omega arith
+
+    -- Sending takes what it sends away.
     sent-left : (q : ℕ) → q < 5 → (g : Grant (ℕ × Packet)) (w : Router) → Rests w q g → AllHeld (λ h. h .left ≤ 31) (w .place)
         → leftOn p x (sent q g w .place) + counted (eqb q p && isSent x g) ≡ leftOn p x (w .place)
-    unfolding sent isSent leftOn tally
+    unfolding sent isSent
     sent-left q hq nobody w R m = omega (arith, ap counted (and-false (eqb q p)), counted-false)
     sent-left q hq bestEffort w R m = omega (arith, ap counted (and-false (eqb q p)), counted-false)
-    sent-left q hq (onTime (i, y)) w R m =
-        let h = tally-put left (w .place) i (lose q (w .place i)) (R .0) in
-        let k = lose-left q hq (w .place i) y (R .1) (m i (R .0)) in
-        omega arith
-    sent-left q hq (early (i, y)) w R m =
-        let h = tally-put left (w .place) i (lose q (w .place i)) (R .0) in
-        let k = lose-left q hq (w .place i) y (R .1) (m i (R .0)) in
-        omega arith
+    sent-left q hq (onTime (i, y)) w R m = lost-left q hq w m i y (R .0) (R .1)
+    sent-left q hq (early (i, y)) w R m = lost-left q hq w m i y (R .0) (R .1)
 
+    -- By induction over the first list.
     times-append : (a b : List Packet) → times x (a ++ b) ≡ times x a + times x b
     unfolding times
     times-append [] b = omega arith
@@ -133,6 +117,7 @@ module _ (p : ℕ) (x : Packet) where
         go false es false et true ez = rw et refl
         go false es false et false ez = rw (et, es) refl
 
+    -- By induction over the places: each loses what is withdrawn from it.
     emptied-left : (T : ℤ) (n : ℕ) (w : Router) → n ≤ 256 → leftOn p x (emptied T n w .place) + times x (withdrawn T (w .place) p n) ≡ leftOn p x (w .place)
     unfolding emptied withdrawn times leftOn tally
     emptied-left T zero w l = omega arith
@@ -153,26 +138,18 @@ unfoldable pub holds : Packet → Option Held → Bool
 holds x none = false
 holds x (some h) = same x (h .packet)
 
--- How many places hold x.
-unfoldable pub heldIn : Packet → (ℕ → Option Held) → ℕ
-heldIn x f = count 256 (λ i. holds x (f i))
-
 module _ (x : Packet) where
+  -- A packet less a port is the same packet.
   holds-lose : (p : ℕ) (v : Option Held) → holds x (lose p v) ≡ holds x v
   unfolding lose holds
   holds-lose p none = refl
   holds-lose p (some h) = refl
 
-  lose-in : (q i : ℕ) (w : Router) → i < 256 → tally (holds x) (put (w .place) i (lose q (w .place i))) ≡ tally (holds x) (w .place)
+  -- So losing a port changes no count of places.
+  lose-in : (q i : ℕ) (w : Router) → i < 256 → tally (holds x) (lost-in i q w .place) ≡ tally (holds x) (w .place)
   lose-in q i w l = let h = tally-put (holds x) (w .place) i (lose q (w .place i)) l in let e = ap counted (holds-lose q (w .place i)) in omega arith
 
-  sent-in : (q : ℕ) (g : Grant (ℕ × Packet)) (w : Router) → Rests w q g → heldIn x (sent q g w .place) ≡ heldIn x (w .place)
-  unfolding sent heldIn tally
-  sent-in q nobody w R = refl
-  sent-in q bestEffort w R = refl
-  sent-in q (onTime (i, y)) w R = lose-in q i w (R .0)
-  sent-in q (early (i, y)) w R = lose-in q i w (R .0)
-
+  -- A place that settles keeps its packet or holds none.
   settle-in : (T : ℤ) (v : Option Held) → counted (holds x (settle T v)) ≤ counted (holds x v)
   unfolding settle holds counted
   settle-in T none = omega arith
@@ -182,8 +159,9 @@ module _ (x : Packet) where
       go true = omega arith
       go false = omega arith
 
-  emptied-in : (T : ℤ) (n : ℕ) (w : Router) → n ≤ 256 → heldIn x (emptied T n w .place) ≤ heldIn x (w .place)
-  unfolding emptied heldIn tally
+  -- By induction over the places.
+  emptied-in : (T : ℤ) (n : ℕ) (w : Router) → n ≤ 256 → tally (holds x) (emptied T n w .place) ≤ tally (holds x) (w .place)
+  unfolding emptied
   emptied-in T zero w l = omega arith
   emptied-in T (suc n) w l =
       let f = emptied T n w .place in
@@ -194,7 +172,7 @@ module _ (x : Packet) where
 
 -- ---- the whole tick
 
-module _ (c : ℕ) (w : Router) (call : TickCall) (G : Good c w) (I : Input c w call) where
+module _ (c : ℕ) (w : Router) (call : TickCall) (G : Good c w) (I : Input c (w .clock) call) where
   abbrev now : ℕ → Router
   now = after c w call
 
@@ -213,17 +191,16 @@ module _ (c : ℕ) (w : Router) (call : TickCall) (G : Good c w) (I : Input c w 
       let b = admitted-tally t m x e₀ e₁ (meets c call (now n) n) (now n) (arrivals-kept c w call G I n) (λ y e. accepted-made c w call n y e .room) in
       omega arith
 
-  arrivals-in : (x : Packet) → heldIn x (now 5 .place) ≡ heldIn x (w .place) + brought any x 5
-  unfolding heldIn holds tally
+  arrivals-in : (x : Packet) → tally (holds x) (now 5 .place) ≡ tally (holds x) (w .place) + brought any x 5
+  unfolding holds
   arrivals-in x = arrivals-tally (holds x) any x refl (λ y. refl) 5
 
-  served-in : (x : Packet) (n : ℕ) → heldIn x (then n .place) ≡ heldIn x (now 5 .place)
-  unfolding served
-  served-in x zero = refl
-  served-in x (suc n) = sent-in x n (chosen c w call n) (then n) (grant-rests (then n) (call .bestEffort) n) ∙ served-in x n
+  -- Serving only takes ports away.
+  served-in : (x : Packet) (n : ℕ) → tally (holds x) (then n .place) ≡ tally (holds x) (now 5 .place)
+  served-in x n = serving-by c w call (λ r. tally (holds x) (r .place) ≡ tally (holds x) (now 5 .place)) refl n (λ q m r e i l. lose-in x q i r l ∙ e)
 
   -- A tick adds no place to those that hold x, but by its arrivals.
-  pub tick-in : (x : Packet) → heldIn x (emptied (then 5 .clock) 256 (then 5) .place) ≤ heldIn x (w .place) + brought any x 5
+  pub tick-in : (x : Packet) → tally (holds x) (emptied (then 5 .clock) 256 (then 5) .place) ≤ tally (holds x) (w .place) + brought any x 5
   tick-in x =
       let a = arrivals-in x in
       let s = served-in x 5 in

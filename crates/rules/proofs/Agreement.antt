@@ -1,38 +1,40 @@
 -- Both routers agree over any list of calls, for every lawful board: call by call, the relation of store and router is kept and the replies are equal. Assumes nothing.
 use Prim.Native.Nat.{ℕ, zero, suc, _+_, _-_, _^_, _<_}
-use mathlib.Core.Path.{_≡_, refl, sym, ap, ap₂, subst, _∙_}
-use mathlib.Core.Bool.{Bool, true, false, cond, not, _&&_, _||_, true≢false}
+use mathlib.Core.Path.{_≡_, refl, sym, ap, ap₂, _∙_}
+use mathlib.Core.Bool.{Bool, true, false, cond, not, _||_, true≢false}
 use mathlib.Core.List.{List, [], _∷_}
-use mathlib.Core.Option.{none, some}
+use mathlib.Core.Option.{Option, none, some}
 use native.Mathlib.Omega.{arith}
-use lib.ListN.{length, take, length-replicate}
+use lib.ListN.{take, length-replicate}
 use lib.Dec.{leb, eqb}
 use borrow.Author.Tests.{eqb-true, leb-true}
-use Rattle.rules.specs.Account.{Done, stored}
-use Rattle.rules.specs.Areas.{Store, Reply, bits, fits, elem, distinct, areasFull}
+use Rattle.rules.specs.Account.{Done, Kept, stored}
+use Rattle.rules.specs.Areas.{Store, Reply, quiet as silent, bits, fits, elem, distinct}
 use Rattle.rules.specs.Board.{Board, clock, horizon, latch, free, idle, mask, outgoing, delay, routes}
 use Rattle.rules.specs.Calls.{Step, Call, control, tick, refusal, refuse, accept, wholeStep, routerAfter, wholeReplies, ByteCall, TrueTimes, Proper}
 use Rattle.rules.specs.Control.{written}
-use Rattle.rules.specs.Demand3.{noted, byteStep, storeAfter, byteReplies, history, Shown, AfterCalls, Holds}
+use Rattle.rules.specs.Demand3.{noted, byteStep, storeAfter, byteReplies, history, PlaceShown, Shown, AfterCalls, Holds}
 use Rattle.rules.specs.Indices.{all, count, counted, topFirst}
 use Rattle.rules.specs.Questions as Entry
-use Rattle.rules.specs.Questions.{full, sound, controlRefusal, tickRefusal, fresh, stack}
+use Rattle.rules.specs.Questions.{sound, controlRefusal, tickRefusal, fresh, stack}
 use Rattle.rules.specs.Tick as Tick
 use Rattle.rules.specs.Tick.{Outcome}
-use Rattle.rules.specs.Whole.{Router, TickCall, start, rising, settings, ticked, isHeld}
-use Rattle.rules.proofs.BoardLaws.{Laws}
-use Rattle.rules.proofs.Booleans.{none-some}
+use Rattle.rules.specs.Whole.{Held, Router, TickCall, start, rising, settings, ticked, isHeld}
+use Rattle.rules.proofs.BoardLaws.{Laws, freshField}
+use Rattle.rules.proofs.Booleans.{asked, none-some}
 use Rattle.rules.proofs.IndexLaws.{all-at}
-use Rattle.rules.proofs.Good.{Good, Input}
+use Rattle.rules.proofs.Good.{Busy, Good}
 use Rattle.rules.proofs.Runs.{settings-good, next-good, input-of, Ticking, Run, rest, quiet, ticks}
 use Rattle.rules.proofs.RunPrompt.{accounts}
 use Rattle.rules.proofs.TimeLaws.{cut-pos, half-pos}
 use Rattle.rules.proofs.StateLaws.{topFirst-same}
-use Rattle.rules.proofs.Refine.{Rel, rel-free, rel-sound, rel-full, tick-rel, reply-same, sends-same}
+use Rattle.rules.proofs.Relation.{shown, on-settings, Here, Rel, rel-free, with-state}
+use Rattle.rules.proofs.Refine.{rel-sound, rel-full, tick-rel, reply-same, sends-same}
 use Rattle.rules.proofs.RefineControl.{write-rel}
 
 -- ---- the router at its start is good
 
+-- By induction over the list.
 elem-rising : (i k n : ℕ) → elem i (rising k n) ≡ true → i < k + n
 unfolding elem rising
 elem-rising i k zero e = absurd (true≢false (sym e))
@@ -42,24 +44,17 @@ elem-rising i k (suc n) e = go (eqb i k) refl e (elem-rising i (suc k) n)
     go true q e f = let z = eqb-true i k q in omega arith
     go false q e f = let z = f e in omega arith
 
-all-free : all 256 (λ i. elem i (rising 0 256)) ≡ true
-unfolding all elem rising
-all-free = refl
-
-once-free : distinct (rising 0 256) ≡ true
-unfolding distinct elem rising
-once-free = refl
-
-nothing-held : length (rising 0 256) + stored (λ i. none) ≡ 256
-unfolding rising stored count isHeld counted
-nothing-held = refl
+-- By computed tests: every place is free, once, and none is held.
+start-kept : Kept (λ i. none) (rising 0 256)
+unfolding all distinct elem rising stored count counted isHeld
+start-kept = record { once = refl; places = λ i e. let h = elem-rising i 0 256 e in omega arith; idle = λ i l. all-at (λ i. elem i (rising 0 256)) 256 i refl l; all = refl }
 
 -- Nothing is held, all places are free, and every setting is 0.
-pub start-good : (c t : ℕ) → Good c (start t)
-unfolding start isHeld
+start-good : (c t : ℕ) → Good c (start t)
+unfolding start
 start-good c t = record {
-  settings = record { delay = λ i l. half-pos c; routes = λ i l. omega arith; horizon = λ p l. half-pos c; latch1 = half-pos c; latch2 = omega arith; latch3 = omega arith };
-  kept = record { once = once-free; places = λ i e. let h = elem-rising i 0 256 e in omega arith; idle = λ i l. all-at (λ i. elem i (rising 0 256)) 256 i all-free l; all = nothing-held };
+  settings = record { entry = λ i l. record { delay = half-pos c; mask = omega arith }; horizon = λ p l. half-pos c; latch = record { delay = half-pos c; mask = omega arith }; ports = omega arith };
+  kept = start-kept;
   fit = λ i l h e. none-some e;
   busy = λ i l h e. none-some e;
 }
@@ -68,6 +63,7 @@ start-empty : (t i : ℕ) → start t .place i ≡ none
 unfolding start
 start-empty t i = refl
 
+-- Computed: the fresh stack is the list of free places.
 top-first : topFirst (λ i. 255 - i) 256 ≡ rising 0 256
 unfolding topFirst rising
 top-first = refl
@@ -75,17 +71,13 @@ top-first = refl
 module _ (B : Board) (L : Laws B) where
   open Board B using (clockBytes as c, stateLength, get, put, freshState)
 
+  -- The fresh state reads as the router at its start, field by field.
   fresh-rel : (t : ℕ) → t < 2 ^ bits c → Rel B L (fresh B t) (start t)
   unfolding fresh start stack
   fresh-rel t h = record {
     settled = record {
       sized = L .length-fresh t;
-      clock = L .get-fresh t clock (omega arith) ∙ sym (cut-pos (bits c) t h);
-      horizon = λ p l. L .get-fresh t (horizon p) l;
-      latch = λ q l. L .get-fresh t (latch q) l;
-      identifier = λ i l. L .get-fresh t (outgoing i) l;
-      delay = λ i l. L .get-fresh t (delay i) l;
-      routes = λ i l. L .get-fresh t (routes i) l;
+      same = λ f e v. L .get-fresh t f v ∙ on-settings (freshField t) (shown c (start t)) (sym (cut-pos (bits c) t h)) (λ p l. refl) (λ q l. refl) (λ i l. (refl, refl, refl)) f e v;
     };
     whole = length-replicate {A = ℕ} 5120 0;
     place = λ i l. L .get-fresh t (mask i) l;
@@ -112,62 +104,52 @@ module _ (B : Board) (L : Laws B) where
 
     tick-number : (k : TickCall) → tickRefusal B r (k .arriving) (k .bestEffort) (k .arrivals) (k .outgoing) (k .answers) ≡ refusal c (tick k)
     unfolding tickRefusal refusal
-    tick-number k = rw (rel-full B L R G) (go (areasFull (k .arrivals) (k .outgoing) (k .answers)) (leb (k .arriving) 31 && leb (k .bestEffort) 31))
-      where
-        go : (a b : Bool) → _≡_ {A = ℕ} (cond (not a) 1 (cond (not (sound B r)) 2 (cond (not b) 3 0))) (cond (not a) 1 (cond (not b) 3 0))
-        go true b = rw (rel-sound B L R G)
-        go false b = refl
+    tick-number k = rw (rel-full B L R G, rel-sound B L R G)
 
+    -- Both questions are passed.
     control-passed : (register v : ℕ) → refusal c (control register v) ≡ 0 → (leb register 5 ≡ true) × (fits c register v ≡ true)
     unfolding refusal
-    control-passed register v e = go (leb register 5) (fits c register v) e
-      where
-        go : (a b : Bool) → _≡_ {A = ℕ} (cond (not a) 4 (cond (not b) 5 0)) 0 → (a ≡ true) × (b ≡ true)
-        go true true e = (refl, refl)
-        go true false e = absurd (omega arith)
-        go false b e = absurd (omega arith)
+    control-passed register v e = let (p, f) = asked (leb register 5) 3 (cond (not (fits c register v)) 5 0) e in (p, asked (fits c register v) 4 0 f .0)
 
+    -- An accepted call agrees, or a refused one.
+    decided : {k : Call} {o o′ : Outcome} {q q′ : Step} (a : Bool) → (a ≡ true → Agree w k o q) → Agree w k o′ q′ → Agree w k (cond a o o′) (cond a q q′)
+    decided true f g = f refl
+    decided false f g = g
+
+    -- An accepted call by the lemma of its kind, a refused one changes nothing in either router.
     agree : (k : Call) → ByteCall c k → TrueTimes c w k → Agree w k (byteStep B r k) (wholeStep c w k)
     unfolding byteStep Entry.controlWrite Entry.tick wholeStep accept refuse noted settings
-    agree (control register v) hb ht = rw (control-number register v) (go (eqb (refusal c (control register v)) 0) refl)
+    agree (control register v) hb ht = rw (control-number register v) (decided (eqb (refusal c (control register v)) 0) accepted (record { rel = R; good = G; reply = refl; runs = λ S. S }))
       where
-        n : ℕ
-        n = refusal c (control register v)
-
-        go : (a : Bool) → eqb n 0 ≡ a
-            → Agree w (control register v) (cond a (record { reply = record { number = 0; outgoing = []; answers = [] }; store = record { state = written B register v (r .state); memory = r .memory } }) (record { reply = record { number = n; outgoing = []; answers = [] }; store = r }))
-            (cond a (accept c w (control register v)) (refuse c w (control register v) n))
-        go true e =
-            let (p, q) = control-passed register v (eqb-true n 0 e) in
-            record { rel = write-rel B L R G register v (leb-true register 5 p) q; good = settings-good c w G register v (leb-true register 5 p) q; reply = refl; runs = λ S. quiet refl refl S }
-        go false e = record { rel = R; good = G; reply = refl; runs = λ S. S }
-    agree (tick k) hb ht = rw (tick-number k) (go (eqb (refusal c (tick k)) 0) refl)
+        accepted : eqb (refusal c (control register v)) 0 ≡ true → Agree w (control register v) (record { reply = silent 0; store = with-state B L r (written B register v (r .state)) }) (accept c w (control register v))
+        accepted e =
+            let (p, q) = control-passed register v (eqb-true (refusal c (control register v)) 0 e) in
+            let l = leb-true register 5 p in
+            record { rel = write-rel B L R (G .kept) register v l q; good = settings-good c w G register v l q; reply = refl; runs = λ S. quiet refl refl S }
+    agree (tick k) hb ht = rw (tick-number k) (decided (eqb (refusal c (tick k)) 0) accepted (record { rel = R; good = G; reply = refl; runs = λ S. S }))
       where
-        n : ℕ
-        n = refusal c (tick k)
-
         t : Outcome
         t = Tick.ticked B r (k .arriving) (k .bestEffort) (k .arrivals)
 
         d : Done
         d = record { met = w; call = k; report = ticked c w k .report; outgoing = t .reply .outgoing }
 
-        go : (a : Bool) → eqb n 0 ≡ a
-            → Agree w (tick k) (cond a t (record { reply = record { number = n; outgoing = k .outgoing; answers = k .answers }; store = r })) (cond a (accept c w (tick k)) (refuse c w (tick k) n))
-        go true e =
-            let I = input-of c w k hb ht (eqb-true n 0 e) in
+        accepted : eqb (refusal c (tick k)) 0 ≡ true → Agree w (tick k) t (accept c w (tick k))
+        accepted e =
+            let I = input-of c w k hb ht (eqb-true (refusal c (tick k)) 0 e) in
             let u : Ticking c d = record { good = G; input = I; report = refl; sends = sends-same B L R G k I } in
             record { rel = tick-rel B L R G k I; good = next-good c u; reply = reply-same B L R G k I; runs = λ S. ticks d u S }
-        go false e = record { rel = R; good = G; reply = refl; runs = λ S. S }
 
   -- ---- a list of calls
 
+  -- The two runs agree: relation, replies, and what was noted makes a run.
   record Agreed (r : Store) (w : Router) (ks : List Call) : Type 0 where
     rel : Rel B L (storeAfter B r ks) (routerAfter c w ks)
     good : Good c (routerAfter c w ks)
     replies : byteReplies B r ks ≡ wholeReplies c w ks
     run : Run c w (history B r w ks) (routerAfter c w ks)
 
+  -- Call by call.
   agreed : (ks : List Call) {r : Store} {w : Router} → Rel B L r w → Good c w → Proper c w ks → Agreed r w ks
   unfolding storeAfter routerAfter byteReplies wholeReplies history Proper
   agreed [] R G P = record { rel = R; good = G; replies = refl; run = rest G }
@@ -176,20 +158,28 @@ module _ (B : Board) (L : Laws B) where
       let b = agreed ks (a .rel) (a .good) (P .2) in
       record { rel = b .rel; good = b .good; replies = ap₂ (λ (x : Reply) (l : List Reply). x ∷ l) (a .reply) (b .replies); run = a .runs (b .run) }
 
-  -- The relation is what is claimed of state and memory.
-  pub shown : {r : Store} {w : Router} → Rel B L r w → Good c w → Shown B r w
-  shown R G = record {
-    clock = R .settled .clock;
-    horizon = R .settled .horizon;
-    latch = R .settled .latch;
-    identifier = R .settled .identifier;
-    delay = R .settled .delay;
-    routes = R .settled .routes;
-    place = R .place;
-    free = let e = rel-free B L R G in let k = G .kept .all in omega arith;
-    stack = R .stack;
-  }
+  -- A slot shows its place, which has a port left.
+  place-shown : (r : Store) (i : ℕ) (v : Option Held) → ((x : Held) → v ≡ some x → Busy x) → Here B L r i v → PlaceShown B r i v
+  place-shown r i none b h = h
+  place-shown r i (some x) b h = (h, b x refl)
 
+  -- The relation is what is claimed of state and memory.
+  rel-shown : {r : Store} {w : Router} → Rel B L r w → Good c w → Shown B r w
+  rel-shown {r} {w} R G =
+      let S = R .settled in
+      record {
+        clock = S .same clock refl (omega arith);
+        horizon = λ p l. S .same (horizon p) refl l;
+        latch = λ q l. S .same (latch q) refl l;
+        identifier = λ i l. S .same (outgoing i) refl l;
+        delay = λ i l. S .same (delay i) refl l;
+        routes = λ i l. S .same (routes i) refl l;
+        place = λ i l. place-shown r i (w .place i) (G .busy i l) (R .place i l);
+        free = let e = rel-free B L R in let k = G .kept .all in omega arith;
+        stack = R .stack;
+      }
+
+  -- A beginning of a proper list is proper.
   proper-take : (n : ℕ) (ks : List Call) (w : Router) → Proper c w ks → Proper c w (take n ks)
   unfolding Proper
   proper-take zero ks w P = tt
@@ -197,10 +187,10 @@ module _ (B : Board) (L : Laws B) where
   proper-take (suc n) (k ∷ ks) w P = (P .0, P .1, proper-take n ks (wholeStep c w k .router) (P .2))
 
   -- The whole claim for one list.
-  pub after-calls : (t : ℕ) → t < 2 ^ bits c → (ks : List Call) → Proper c (start t) ks → AfterCalls B t ks
+  after-calls : (t : ℕ) → t < 2 ^ bits c → (ks : List Call) → Proper c (start t) ks → AfterCalls B t ks
   after-calls t h ks P =
       let a = agreed ks (fresh-rel t h) (start-good c t) P in
-      record { replies = a .replies; sound = rel-sound B L (a .rel) (a .good); shown = shown (a .rel) (a .good); accounts = accounts c (a .run) (start-empty t) }
+      record { replies = a .replies; sound = rel-sound B L (a .rel) (a .good); shown = rel-shown (a .rel) (a .good); accounts = accounts c (a .run) (start-empty t) }
 
   -- And so for each of its beginnings.
   pub holds : Holds B

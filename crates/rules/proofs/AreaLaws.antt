@@ -76,6 +76,7 @@ length-packed c i v l e h = ap suc (length-append (digits c v) l) ∙ omega (ari
 
 -- ---- five packets, one after the other
 
+-- The first packet of an area is passed over.
 skip : (a l : List ℕ) (n : ℕ) → length a ≡ 20 → drop (20 + n) (a ++ l) ≡ drop n l
 skip a l n e = ap (λ (k : ℕ). drop (k + n) (a ++ l)) (sym e) ∙ drop-append-add a l n
 

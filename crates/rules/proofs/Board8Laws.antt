@@ -7,21 +7,21 @@ use native.Mathlib.Omega.{arith}
 use lib.ListN.{length}
 use lib.Dec.{ltb, eqb}
 use Rattle.rules.specs.Areas.{value, digits}
-use Rattle.rules.specs.Board.{getAt}
+use Rattle.rules.specs.Board.{Field, clock, horizon, latch, free, idle, getAt}
 use Rattle.rules.specs.Board8.{table8, fresh8, board8}
 use Rattle.rules.specs.Indices.{all, topFirst}
 use Rattle.rules.proofs.BoardLaws.{Laws, freshField}
-use Rattle.rules.proofs.TableLaws.{each, owned, lawful-table}
+use Rattle.rules.proofs.TableLaws.{field, each, owned, lawful-table}
 
 -- Whose byte stands at offset o.
-kind8 : ℕ → ℕ
-kind8 o = cond (ltb o 1) 0 (cond (ltb o 6) 1 (cond (ltb o 10) 2 (cond (ltb o 12) 3 (cond (ltb o 268) 4 (cond (ltb o 1036) (5 + (o - 268) % 3) (8 + (o - 1036) % 3))))))
+owner8 : ℕ → Field
+owner8 o =
+    cond (ltb o 1) clock (cond (ltb o 6) (horizon (o - 1)) (cond (ltb o 10) (latch (o - 6)) (cond (ltb o 12) free (cond (ltb o 268) (idle (o - 12))
+    (cond (ltb o 1036) (field (5 + (o - 268) % 3) ((o - 268) / 3)) (field (8 + (o - 1036) % 3) ((o - 1036) / 3)))))))
 
-index8 : ℕ → ℕ
-index8 o = cond (ltb o 1) 0 (cond (ltb o 6) (o - 1) (cond (ltb o 10) (o - 6) (cond (ltb o 12) 0 (cond (ltb o 268) (o - 12) (cond (ltb o 1036) ((o - 268) / 3) ((o - 1036) / 3))))))
-
-owned8 : each (owned table8 1804 kind8 index8) ≡ true
-unfolding each owned all kind8 index8
+-- Computed tests over all fields.
+owned8 : each (owned table8 1804 owner8) ≡ true
+unfolding each owned all owner8
 owned8 = refl
 
 blank8 : each (λ f. eqb (getAt table8 (digits 1 0 ++ fresh8) f) (freshField 0 f)) ≡ true
@@ -34,4 +34,4 @@ whole8 = refl
 
 -- By its tests.
 pub lawful8 : Laws board8
-lawful8 = lawful-table 1 1804 table8 fresh8 (record { some-bytes = omega arith; few-bytes = omega arith; ownerKind = kind8; ownerIndex = index8; owners = owned8; first = refl; wide = refl; whole = whole8; blank = blank8 })
+lawful8 = lawful-table 1 1804 table8 fresh8 (record { some-bytes = omega arith; few-bytes = omega arith; owner = owner8; owners = owned8; first = refl; wide = refl; whole = whole8; blank = blank8 })

@@ -1,13 +1,15 @@
 -- Tests that hold or fail, and what a test says. Assumes nothing.
-use Prim.Native.Nat.{ℕ}
+use Prim.Native.Nat.{ℕ, suc}
 use mathlib.Core.Path.{_≡_, refl, sym, ap₂, subst}
-use mathlib.Core.Bool.{Bool, true, false, not, _&&_, _||_, Bool·beq, true≢false}
+use mathlib.Core.Bool.{Bool, true, false, cond, not, _&&_, _||_, Bool·beq, true≢false}
+use mathlib.Core.List.{List, [], _∷_}
 use mathlib.Core.Option.{none, some}
 use native.Mathlib.Omega.{arith}
 use lib.Dec.{T}
 
 -- ---- a test and its proposition
 
+-- By the two cases, as all that follows.
 pub is-true : (t : Bool) → t ≡ true → T t
 is-true true e = tt
 is-true false e = absurd (true≢false (sym e))
@@ -20,6 +22,11 @@ true-is false h = absurd h
 pub false-is : (t : Bool) → (T t → ⊥) → t ≡ false
 false-is true f = absurd (f tt)
 false-is false f = refl
+
+-- Tests that say the same are equal.
+pub same-test : (s t : Bool) → (T s → T t) → (T t → T s) → s ≡ t
+same-test true t f g = sym (true-is t (f tt))
+same-test false t f g = sym (false-is t g)
 
 -- ---- connectives
 
@@ -55,6 +62,11 @@ eq-beq a b e = subst (λ (x : Bool). Bool·beq a x ≡ true) e (go a)
     go true = refl
     go false = refl
 
+-- Where questions give 0, the first is passed and the rest give 0.
+pub asked : (a : Bool) (n m : ℕ) → cond (not a) (suc n) m ≡ 0 → (a ≡ true) × (m ≡ 0)
+asked true n m e = (refl, e)
+asked false n m e = absurd (omega arith)
+
 -- ---- constructors are one-to-one, and differ
 
 pub some-inj : {A : Type 0} {x y : A} → some x ≡ some y → x ≡ y
@@ -62,3 +74,12 @@ some-inj e = cc
 
 pub none-some : {A C : Type 0} {x : A} → none ≡ some x → C
 none-some e = let z : _≡_ {A = ℕ} 0 1 = cc in absurd (omega arith)
+
+pub cons-first : {A : Type 0} {a b : A} {x y : List A} → a ∷ x ≡ b ∷ y → a ≡ b
+cons-first e = cc
+
+pub cons-rest : {A : Type 0} {a b : A} {x y : List A} → a ∷ x ≡ b ∷ y → x ≡ y
+cons-rest e = cc
+
+pub nil-cons : {A C : Type 0} {b : A} {y : List A} → [] ≡ b ∷ y → C
+nil-cons e = let z : _≡_ {A = ℕ} 0 1 = cc in absurd (omega arith)

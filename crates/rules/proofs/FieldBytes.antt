@@ -1,16 +1,17 @@
 -- A field of document 01's board as code reads and stores it: one byte, or two for the free count. Assumes nothing.
 use Prim.Native.Nat.{ℕ, zero, suc, _+_, _*_, _/_, _%_, _<_}
 use mathlib.Core.Path.{_≡_, refl, sym, ap, _∙_}
-use mathlib.Core.List.{List, [], _∷_, _++_}
+use mathlib.Core.List.{List, [], _∷_}
 use mathlib.Core.Logic.{_≢_}
 use native.Mathlib.Nat.{add-zero, add-suc, suc-add}
 use native.Mathlib.Omega.{arith}
-use lib.ListN.{length, length-set, take, drop, set, getD}
+use lib.ListN.{length, length-set, take, drop, set}
 use lib.Seq.{sets, length-sets, getD-set-same, set-getD, getD-take, getD-drop, getD-set-other}
 use Rattle.rules.specs.Areas.{value, digits, byte, packet, stamp, payload, packed, low, half}
 use Rattle.rules.specs.Board.{Field, free, getAt, putAt}
 use Rattle.rules.specs.Board8.{table8, board8}
 
+-- A number of one byte, and of two, read and written: by induction to the place.
 value-one : (p : ℕ) (s : List ℕ) → value (take 1 (drop p s)) ≡ byte s p
 unfolding value
 value-one zero [] = refl
@@ -35,6 +36,7 @@ unfolding digits
 digits-two v = ap (λ (x : ℕ). v / 256 ∷ x ∷ []) (omega arith)
 
 module _ (s : List ℕ) (f : Field) (one : table8 f .1 ≡ 1) where
+  -- A field of one byte is that byte, and its store is the store of it.
   pub get-one : board8 .get s f ≡ byte s (table8 f .0)
   unfolding getAt
   get-one = rw one (value-one (table8 f .0) s)
@@ -48,9 +50,11 @@ module _ (s t : List ℕ) (f : Field) (one : table8 f .1 ≡ 1) where
   pub put-again : board8 .get t f ≡ board8 .get s f → board8 .put t f (board8 .get s f) ≡ t
   put-again e = rw (← e, put-one t f one (board8 .get t f), get-one t f one) (set-getD t (table8 f .0) 0)
 
+-- A store at another place does not show.
 pub get-other : (s : List ℕ) (g : Field) (v : ℕ) (f : Field) → table8 g .1 ≡ 1 → table8 f .1 ≡ 1 → table8 f .0 ≢ table8 g .0 → board8 .get (board8 .put s g v) f ≡ board8 .get s f
 get-other s g v f a b n = rw (get-one (board8 .put s g v) f b, put-one s g a v, get-one s f b) (getD-set-other s (table8 g .0) (table8 f .0) v 0 n)
 
+-- The free count has two bytes, high first.
 pub get-free : (s : List ℕ) → length s ≡ 1804 → board8 .get s free ≡ byte s 10 * 256 + byte s 11
 unfolding getAt
 get-free s h = value-two 10 s (omega arith)

@@ -2,7 +2,8 @@
 use Prim.Native.Nat.{ℕ, zero, suc, _+_, _-_, _*_, _<_, _≤_}
 use mathlib.Core.Path.{_≡_, refl, sym, ap, subst, _∙_}
 use mathlib.Core.Bool.{Bool, true, false, _&&_, and-true}
-use mathlib.Core.List.{List}
+use mathlib.Core.List.{List, _∷_}
+use mathlib.Core.Option.{some}
 use native.Mathlib.Omega.{arith}
 use lib.ListN.{length, drop, length-drop, length-take}
 use lib.Dec.{T}
@@ -12,11 +13,12 @@ use borrow.Author.Tests.{eqb-false}
 use Rattle.rules.specs.Account.{Kept}
 use Rattle.rules.specs.Areas.{byte, bits, half, stamp, packet, payload, has, Grant}
 use Rattle.rules.specs.Clock.{cut}
-use Rattle.rules.specs.Whole.{Packet, Held, Router, TickCall, withPlaces, advanced, accepted, grant, served, isDue, emptied, meets, arrivals, isHeld}
-use Rattle.rules.proofs.Integers.{leZ-refl, leZ-trans, lt-suc, not-lt, not-le, soon-suc, lt-widen, suc-le}
+use Rattle.rules.specs.Whole.{Packet, Held, Entry, Router, TickCall, withPlaces, advanced, accepted, grant, lose, served, isDue, emptied, meets, arrivals, isHeld}
+use Rattle.rules.proofs.Booleans.{some-inj}
+use Rattle.rules.proofs.Integers.{orders, diff-nat, suc-nat, not-lt, not-le}
 use Rattle.rules.proofs.Masks.{without-le}
-use Rattle.rules.proofs.WholeLaws.{AllHeld, fresh-held, loses, admitted-all, sent-all, Made, arrival-made, admitted-kept, sent-kept, sent-held, emptied-kept, admitted-frame, sent-frame, emptied-frame, emptied-held}
-use Rattle.rules.proofs.Grants.{grant-rests, grant-place}
+use Rattle.rules.proofs.WholeLaws.{AllHeld, fresh-held, loses, put-all, lose-all, stored-in, lost-in, admitted-by, sent-by, Made, arrival-made, kept-take, kept-same, held-put, held-lose, emptied-kept, emptied-frame, emptied-held}
+use Rattle.rules.proofs.Grants.{grant-rests}
 
 -- The times of a packet at the clock t: deadline by a delay in range, not past, and the time less than n ahead.
 pub record Fit (c : ℕ) (t : ℤ) (n : ℕ) (x : Packet) : Type 0 where
@@ -28,6 +30,7 @@ pub record Fit (c : ℕ) (t : ℤ) (n : ℕ) (x : Packet) : Type 0 where
   pub arrived : T (leZ (x .arrived) t)
   pub size : length (x .payload) ≡ 20 - (1 + c)
 
+-- A held packet fits, and its ports are five at most.
 pub record HeldFit (c : ℕ) (t : ℤ) (n : ℕ) (h : Held) : Type 0 where
   pub fit : Fit c t n (h .packet)
   pub left : h .left ≤ 31
@@ -36,14 +39,23 @@ pub record HeldFit (c : ℕ) (t : ℤ) (n : ℕ) (h : Held) : Type 0 where
 abbrev pub Busy : Held → Type 0
 Busy h = 0 < h .left
 
-pub record Settings (c : ℕ) (w : Router) : Type 0 where
-  pub delay : (i : ℕ) → i < 256 → w .entry i .delay < half c
-  pub routes : (i : ℕ) → i < 256 → w .entry i .mask ≤ 31
-  pub horizon : (p : ℕ) → p < 5 → w .horizon p < half c
-  pub latch1 : w .latch 1 < half c
-  pub latch2 : w .latch 2 ≤ 31
-  pub latch3 : w .latch 3 ≤ 31
+-- An entry's delay and mask are in range.
+pub record EntryFits (c : ℕ) (e : Entry) : Type 0 where
+  pub delay : e .delay < half c
+  pub mask : e .mask ≤ 31
 
+-- The entry that waits in the latch.
+abbrev pub latched : Router → Entry
+latched w = record { identifier = w .latch 0; delay = w .latch 1; mask = w .latch 2 }
+
+-- Every setting is in range.
+pub record Settings (c : ℕ) (w : Router) : Type 0 where
+  pub entry : (i : ℕ) → i < 256 → EntryFits c (w .entry i)
+  pub horizon : (p : ℕ) → p < 5 → w .horizon p < half c
+  pub latch : EntryFits c (latched w)
+  pub ports : w .latch 3 ≤ 31
+
+-- What every call keeps.
 pub record Good (c : ℕ) (w : Router) : Type 0 where
   pub settings : Settings c w
   pub kept : Kept (w .place) (w .free)
@@ -52,19 +64,20 @@ pub record Good (c : ℕ) (w : Router) : Type 0 where
 
 -- The bound ahead may grow.
 pub fit-more : (c : ℕ) (t : ℤ) (n m : ℕ) (x : Packet) → n ≤ m → Fit c t n x → Fit c t m x
-fit-more c t n m x l F = record { delay = F .delay; sum = F .sum; small = F .small; due = F .due; soon = lt-widen (x .time -ℤ t) n m (F .soon) l; arrived = F .arrived; size = F .size }
+fit-more c t n m x l F = record { delay = F .delay; sum = F .sum; small = F .small; due = F .due; soon = let s = F .soon in omega (arith, orders); arrived = F .arrived; size = F .size }
 
+-- A mask less a port is no larger.
 lose-fit : (c : ℕ) (t : ℤ) (n p : ℕ) → p < 5 → (h : Held) → HeldFit c t n h → HeldFit c t n (loses p h)
 lose-fit c t n p l h f = record { fit = f .fit; left = without-le (h .left) p (f .left) l }
 
 -- ---- through a tick
 
 -- What an accepted tick is given: the arrivals' area is whole and of bytes, and each arriving packet has its true time in its header, in range.
-pub record Input (c : ℕ) (w : Router) (call : TickCall) : Type 0 where
+pub record Input (c : ℕ) (t : ℤ) (call : TickCall) : Type 0 where
   pub whole : length (call .arrivals) ≡ 100
   pub identifier : (p : ℕ) → p < 5 → byte (packet (call .arrivals) p) 0 < 256
-  pub soon : (p : ℕ) → p < 5 → has (call .arriving) p ≡ true → T (ltZ (call .times p -ℤ w .clock) (pos (half c)))
-  pub from : (p : ℕ) → p < 5 → has (call .arriving) p ≡ true → T (leZ (negℤ (pos (half c))) (call .times p -ℤ w .clock))
+  pub soon : (p : ℕ) → p < 5 → has (call .arriving) p ≡ true → T (ltZ (call .times p -ℤ t) (pos (half c)))
+  pub from : (p : ℕ) → p < 5 → has (call .arriving) p ≡ true → T (leZ (negℤ (pos (half c))) (call .times p -ℤ t))
   pub header : (p : ℕ) → p < 5 → has (call .arriving) p ≡ true → stamp c (packet (call .arrivals) p) ≡ cut (bits c) (call .times p)
 
 -- A packet of a whole area has 20 bytes.
@@ -72,20 +85,16 @@ pub length-packet : (area : List ℕ) (p : ℕ) → length area ≡ 100 → p < 
 unfolding packet
 length-packet area p e h = rw (length-take 20 (drop (20 * p) area), length-drop (20 * p) area) (omega arith)
 
--- Each step changes places and free places only, whatever the router.
 module _ (c : ℕ) (w : Router) (call : TickCall) where
   -- The router after the arrivals below p.
   abbrev pub after : ℕ → Router
   after p = arrivals c p call w
 
-  pub arrivals-frame : (p : ℕ) → after p ≡ withPlaces w (after p .place) (after p .free)
+  -- What holds at first, and with each packet that is accepted, holds after the arrivals below n.
+  after-by : (P : Router → Type 0) → P w → (n : ℕ) → ((p : ℕ) → p < n → P (after p) → (x : Packet) (i : ℕ) (l : List ℕ) → meets c call (after p) p ≡ accepted x → after p .free ≡ i ∷ l → P (stored-in i l x (after p))) → P (after n)
   unfolding arrivals
-  arrivals-frame zero = refl
-  arrivals-frame (suc p) = admitted-frame (meets c call (after p) p) w (after p) (arrivals-frame p)
-
-  -- What is accepted has passed the questions at the settings of the tick.
-  pub accepted-made : (p : ℕ) (x : Packet) → meets c call (after p) p ≡ accepted x → Made c (withPlaces w (after p .place) (after p .free)) (call .arriving) p (packet (call .arrivals) p) (call .times p) x
-  accepted-made p x e = subst (λ r. Made c r (call .arriving) p (packet (call .arrivals) p) (call .times p) x) (arrivals-frame p) (arrival-made c (after p) (call .arriving) p (packet (call .arrivals) p) (call .times p) x e)
+  after-by P b zero f = b
+  after-by P b (suc n) f = let h = after-by P b n (λ p l. f p (omega arith)) in admitted-by P (meets c call (after n) n) (after n) h (f n (omega arith) h)
 
   -- The router after the ports below p are served.
   abbrev pub serving : ℕ → Router
@@ -95,46 +104,66 @@ module _ (c : ℕ) (w : Router) (call : TickCall) where
   abbrev pub chosen : ℕ → Grant (ℕ × Packet)
   chosen p = grant (serving p) (call .bestEffort) p
 
-  pub served-frame : (p : ℕ) → serving p ≡ withPlaces w (serving p .place) (serving p .free)
+  -- What holds after the arrivals, and less a port somewhere, holds after the ports below n are served.
+  pub serving-by : (P : Router → Type 0) → P (after 5) → (n : ℕ) → ((p : ℕ) → p < n → (r : Router) → P r → (i : ℕ) → i < 256 → P (lost-in i p r)) → P (serving n)
   unfolding served
-  served-frame zero = arrivals-frame 5
-  served-frame (suc p) = sent-frame p (chosen p) w (serving p) (served-frame p)
-
-  -- Serving empties no place.
-  pub served-held : (p i : ℕ) → isHeld (serving p .place i) ≡ isHeld (after 5 .place i)
-  unfolding served
-  served-held zero i = refl
-  served-held (suc p) i = sent-held p (chosen p) (serving p) i ∙ served-held p i
-
-  -- What losing a port keeps, serving keeps.
-  pub served-all : (P : Held → Type 0) → ((p : ℕ) → p < 5 → (h : Held) → P h → P (loses p h)) → AllHeld P (after 5 .place) → (p : ℕ) → p ≤ 5 → AllHeld P (serving p .place)
-  unfolding served
-  served-all P f a zero l = a
-  served-all P f a (suc p) l =
-      sent-all P p (chosen p) (serving p) (f p (omega arith)) (grant-place (serving p) p (chosen p) (grant-rests (serving p) (call .bestEffort) p)) (served-all P f a p (omega arith))
-
-  -- The clock stands still until the last step.
-  pub clock-at : (p : ℕ) → serving p .clock ≡ w .clock
-  clock-at p = ap (λ r. r .clock) (served-frame p)
+  serving-by P b zero f = b
+  serving-by P b (suc n) f =
+      let h = serving-by P b n (λ p l. f p (omega arith)) in
+      sent-by P n (chosen n) (serving n) (grant-rests (serving n) (call .bestEffort) n) h (f n (omega arith) (serving n) h)
 
   -- The router after the places are emptied.
   abbrev pub ended : Router
   ended = emptied (serving 5 .clock) 256 (serving 5)
 
-  pub ended-frame : ended ≡ withPlaces w (ended .place) (ended .free)
+  -- ---- each step changes places and free places only
+
+  abbrev Framed : Router → Type 0
+  Framed r = r ≡ withPlaces w (r .place) (r .free)
+
+  -- A stored packet leaves the settings, and so does a port lost.
+  pub arrivals-frame : (p : ℕ) → Framed (after p)
+  arrivals-frame p = after-by Framed refl p (λ q m e x i l a f. ap (λ s. stored-in i l x (withPlaces s (after q .place) (after q .free))) e)
+
+  pub served-frame : (p : ℕ) → Framed (serving p)
+  served-frame p = serving-by Framed (arrivals-frame 5) p (λ q m r e i l. ap (λ s. lost-in i q (withPlaces s (r .place) (r .free))) e)
+
+  pub ended-frame : Framed ended
   ended-frame = emptied-frame (serving 5 .clock) 256 (serving 5) ∙ ap (λ r. withPlaces r (ended .place) (ended .free)) (served-frame 5)
+
+  -- The clock stands still until the last step.
+  pub clock-at : (p : ℕ) → serving p .clock ≡ w .clock
+  clock-at p = ap (λ r. r .clock) (served-frame p)
+
+  -- What is accepted has passed the questions at the settings of the tick.
+  pub accepted-made : (p : ℕ) (x : Packet) → meets c call (after p) p ≡ accepted x → Made c (withPlaces w (after p .place) (after p .free)) (call .arriving) p (packet (call .arrivals) p) (call .times p) x
+  accepted-made p x e = subst (λ r. Made c r (call .arriving) p (packet (call .arrivals) p) (call .times p) x) (arrivals-frame p) (arrival-made c (after p) (call .arriving) p (packet (call .arrivals) p) (call .times p) x e)
+
+  -- ---- what holds of every held packet
+
+  -- What is accepted has it, so what is held after the arrivals has.
+  pub after-all : (P : Held → Type 0) → AllHeld P (w .place) → (n : ℕ) → ((p : ℕ) → p < n → (x : Packet) → meets c call (after p) p ≡ accepted x → P (fresh-held x)) → AllHeld P (after n .place)
+  after-all P a n f = after-by (λ r. AllHeld P (r .place)) a n (λ p m b x i l e q. put-all P (after p .place) i (some (fresh-held x)) (λ h k. subst P (some-inj k) (f p m x e)) b)
+
+  -- What losing a port keeps, serving keeps.
+  pub served-all : (P : Held → Type 0) → ((p : ℕ) → p < 5 → (h : Held) → P h → P (loses p h)) → AllHeld P (after 5 .place) → (n : ℕ) → n ≤ 5 → AllHeld P (serving n .place)
+  served-all P f a n l = serving-by (λ r. AllHeld P (r .place)) a n (λ p m r b i k. put-all P (r .place) i (lose p (r .place i)) (lose-all P p (f p (omega arith)) (r .place i) (b i k)) b)
+
+  -- Serving empties no place.
+  pub served-held : (p i : ℕ) → isHeld (serving p .place i) ≡ isHeld (after 5 .place i)
+  served-held p i = serving-by (λ r. isHeld (r .place i) ≡ isHeld (after 5 .place i)) refl p (λ q m r e j l. held-put (r .place) j (lose q (r .place j)) (held-lose q (r .place j)) i ∙ e)
 
 -- A packet that is not due, and whose deadline is not past, has its deadline later.
 not-due : (t : ℤ) (x : Packet) → isDue t x ≡ false → T (leZ t (x .deadline)) → T (leZ (sucℤ t) (x .deadline))
 unfolding isDue
-not-due t x e d = lt-suc t (x .deadline) (not-le (x .deadline) t (go (leZ (x .deadline) t) (leZ t (x .deadline)) e d))
+not-due t x e d = let l = not-le (x .deadline) t (go (leZ (x .deadline) t) (leZ t (x .deadline)) e d) in omega (arith, orders, suc-nat t)
   where
     go : (a b : Bool) → (a && b) ≡ false → T b → a ≡ false
     go a true e d = sym (and-true a) ∙ e
     go a false e d = absurd d
 
 -- Each step of a good router's tick keeps it good.
-module _ (c : ℕ) (w : Router) (call : TickCall) (G : Good c w) (I : Input c w call) where
+module _ (c : ℕ) (w : Router) (call : TickCall) (G : Good c w) (I : Input c (w .clock) call) where
   abbrev at : ℕ → Router
   at = after c w call
 
@@ -146,10 +175,9 @@ module _ (c : ℕ) (w : Router) (call : TickCall) (G : Good c w) (I : Input c w 
 
   -- Arrivals lose no place.
   pub arrivals-kept : (p : ℕ) → Kept (at p .place) (at p .free)
-  unfolding arrivals
-  arrivals-kept zero = G .kept
-  arrivals-kept (suc p) = admitted-kept (meets c call (at p) p) (at p) (arrivals-kept p)
+  arrivals-kept p = after-by c w call (λ r. Kept (r .place) (r .free)) (G .kept) p (λ q m K x i l e f. kept-take (subst (Kept (at q .place)) f K) (fresh-held x))
 
+  -- By the questions that it passed, its delay and mask from an entry in range.
   accepted-fit : (p : ℕ) → p < 5 → (x : Packet) → meets c call (at p) p ≡ accepted x → HeldFit c (w .clock) (half c) (fresh-held x)
   unfolding payload
   accepted-fit p l x e =
@@ -159,44 +187,48 @@ module _ (c : ℕ) (w : Router) (call : TickCall) (G : Good c w) (I : Input c w 
         fit = record {
           delay = w .entry i .delay;
           sum = refl;
-          small = G .settings .delay i (I .identifier p l);
+          small = G .settings .entry i (I .identifier p l) .delay;
           due = not-lt (call .times p +ℤ pos (w .entry i .delay)) (w .clock) (m .in-time);
           soon = I .soon p l (m .here);
-          arrived = leZ-refl (w .clock);
+          arrived = omega (arith, orders);
           size = length-drop (1 + c) (packet (call .arrivals) p) ∙ ap (λ (n : ℕ). n - (1 + c)) (length-packet (call .arrivals) p (I .whole) l);
         };
-        left = G .settings .routes i (I .identifier p l);
+        left = G .settings .entry i (I .identifier p l) .mask;
       })
 
+  -- Its entry is open.
   accepted-busy : (p : ℕ) (x : Packet) → meets c call (at p) p ≡ accepted x → Busy (fresh-held x)
   accepted-busy p x e =
       let m = accepted-made c w call p x e in
       subst (λ y. Busy (fresh-held y)) (m .is) (let n = eqb-false (w .entry (byte (packet (call .arrivals) p) 0) .mask) 0 (m .open-entry) in omega arith)
 
   -- What they store fits, as what was stored does.
-  pub arrivals-fit : (p : ℕ) → p ≤ 5 → AllHeld (HeldFit c (w .clock) (half c)) (at p .place)
-  unfolding arrivals
-  arrivals-fit zero l = λ i m h e.
+  arrivals-fit : (p : ℕ) → p ≤ 5 → AllHeld (HeldFit c (w .clock) (half c)) (at p .place)
+  arrivals-fit p l = after-all c w call (HeldFit c (w .clock) (half c)) (λ i m h e.
       let f = G .fit i m h e in
-      record { fit = fit-more c (w .clock) (half c - 1) (half c) (h .packet) (omega arith) (f .fit); left = f .left }
-  arrivals-fit (suc p) l = admitted-all (HeldFit c (w .clock) (half c)) (meets c call (at p) p) (at p) (accepted-fit p (omega arith)) (arrivals-fit p (omega arith))
+      record { fit = fit-more c (w .clock) (half c - 1) (half c) (h .packet) (omega arith) (f .fit); left = f .left }) p (λ q m. accepted-fit q (omega arith))
 
   -- What they store has a port left.
   pub arrivals-busy : (p : ℕ) → AllHeld Busy (at p .place)
-  unfolding arrivals
-  arrivals-busy zero = G .busy
-  arrivals-busy (suc p) = admitted-all Busy (meets c call (at p) p) (at p) (accepted-busy p) (arrivals-busy p)
+  arrivals-busy p = after-all c w call Busy (G .busy) p (λ q m. accepted-busy q)
 
   -- Serving loses no place.
   pub served-kept : (p : ℕ) → Kept (then p .place) (then p .free)
-  unfolding served
-  served-kept zero = arrivals-kept 5
-  served-kept (suc p) = sent-kept p (chosen c w call p) (then p) (served-kept p)
+  served-kept p = serving-by c w call (λ r. Kept (r .place) (r .free)) (arrivals-kept 5) p (λ q m r K i l. kept-same (held-put (r .place) i (lose q (r .place i)) (held-lose q (r .place i))) K)
 
   -- What is stored still fits.
   pub served-fit : (p : ℕ) → p ≤ 5 → AllHeld (HeldFit c (w .clock) (half c)) (then p .place)
   served-fit = served-all c w call (HeldFit c (w .clock) (half c)) (λ p l h f. lose-fit c (w .clock) (half c) p l h f) (arrivals-fit 5 (omega arith))
 
+  -- And so it does at the clock of that router.
+  pub fit-then : (p : ℕ) → p ≤ 5 → AllHeld (HeldFit c (then p .clock) (half c)) (then p .place)
+  fit-then p l = subst (λ (t : ℤ). AllHeld (HeldFit c t (half c)) (then p .place)) (sym (clock-at c w call p)) (served-fit p l)
+
+  -- The clock that the arrivals meet is the one met.
+  pub input-then : (p : ℕ) → Input c (at p .clock) call
+  input-then p = subst (λ r. Input c (r .clock) call) (sym (arrivals-frame c w call p)) I
+
+  -- What is still held was not due, so its deadline is after the clock; its time is one less ahead.
   ended-fit : AllHeld (HeldFit c (sucℤ (w .clock)) (half c - 1)) (last .place)
   ended-fit i l h e =
       let (p, q, s) = emptied-held (then 5 .clock) (then 5) i l h e in
@@ -207,8 +239,8 @@ module _ (c : ℕ) (w : Router) (call : TickCall) (G : Good c w) (I : Input c w 
           sum = f .fit .sum;
           small = f .fit .small;
           due = not-due (w .clock) (h .packet) (subst (λ (t : ℤ). isDue t (h .packet) ≡ false) (clock-at c w call 5) q) (f .fit .due);
-          soon = soon-suc (half c) (h .packet .time) (w .clock) (f .fit .soon);
-          arrived = leZ-trans (h .packet .arrived) (w .clock) (sucℤ (w .clock)) (f .fit .arrived) (suc-le (w .clock));
+          soon = let s = f .fit .soon in omega (arith, orders, diff-nat (h .packet .time) (w .clock), diff-nat (h .packet .time) (sucℤ (w .clock)), suc-nat (w .clock));
+          arrived = let a = f .fit .arrived in omega (arith, orders, suc-nat (w .clock));
           size = f .fit .size;
         };
         left = f .left;
@@ -223,7 +255,7 @@ module _ (c : ℕ) (w : Router) (call : TickCall) (G : Good c w) (I : Input c w 
   -- So a tick keeps the router good.
   pub tick-good : Good c (advanced last)
   tick-good = subst (λ r. Good c (advanced r)) (sym (ended-frame c w call)) (record {
-    settings = record { delay = G .settings .delay; routes = G .settings .routes; horizon = G .settings .horizon; latch1 = G .settings .latch1; latch2 = G .settings .latch2; latch3 = G .settings .latch3 };
+    settings = record { entry = G .settings .entry; horizon = G .settings .horizon; latch = record { delay = G .settings .latch .delay; mask = G .settings .latch .mask }; ports = G .settings .ports };
     kept = emptied-kept (then 5 .clock) 256 (then 5) (omega arith) (served-kept 5);
     fit = ended-fit;
     busy = ended-busy;

@@ -1,8 +1,7 @@
 -- Whom the router that never turns over grants a port, from the packets that wait for it. Assumes nothing.
 use Prim.Native.Nat.{ℕ, _<_}
-use mathlib.Core.Path.{_≡_, refl, sym, ap, ap₂, subst, _∙_}
+use mathlib.Core.Path.{_≡_, refl, sym, ap, ap₂, _∙_}
 use mathlib.Core.Bool.{Bool, true, false, cond}
-use mathlib.Core.Logic.{_⊎_, inl, inr}
 use mathlib.Core.Option.{Option, none, some}
 use native.Mathlib.Omega.{arith}
 use lib.Dec.{T}
@@ -13,15 +12,16 @@ use Rattle.rules.specs.Indices.{least}
 use Rattle.rules.specs.Whole.{Packet, Held, Router, waiting, filter, byDeadline, byTime, granted, grant}
 use Rattle.rules.proofs.Booleans.{some-inj, none-some, is-true, true-is, false-is}
 use Rattle.rules.proofs.IndexLaws.{least-in, least-beats}
-use Rattle.rules.proofs.Integers.{leZ-trans, not-lt, lt-le, lt-of, irreflexive, diff-mono}
+use Rattle.rules.proofs.Integers.{orders, diff-nat, not-lt}
 
 -- What a grant of port p at the router r rests on.
 abbrev pub Rests : Router → ℕ → Grant (ℕ × Packet) → Type 0
 Rests r p nobody = Unit {0}
 Rests r p bestEffort = Unit {0}
-Rests r p (onTime (i, x)) = (i < 256) × (waiting (r .place i) p ≡ some x) × (leZ (x .time) (r .clock) ≡ true)
-Rests r p (early (i, x)) = (i < 256) × (waiting (r .place i) p ≡ some x) × (ltZ (r .clock) (x .time) ≡ true) × (leZ (x .time -ℤ r .clock) (pos (r .horizon p)) ≡ true)
+Rests r p (onTime (i, x)) = (i < 256) × (waiting (r .place i) p ≡ some x) × T (leZ (x .time) (r .clock))
+Rests r p (early (i, x)) = (i < 256) × (waiting (r .place i) p ≡ some x) × T (ltZ (r .clock) (x .time)) × T (leZ (x .time -ℤ r .clock) (pos (r .horizon p)))
 
+-- By cases of the test.
 filter-some : (t : Packet → Bool) (v : Option Packet) (x : Packet) → filter t v ≡ some x → (v ≡ some x) × (t x ≡ true)
 unfolding filter
 filter-some t none x e = none-some e
@@ -41,11 +41,11 @@ filter-in t v x e q = ap (filter t) e ∙ ap (λ (b : Bool). cond b (some x) non
 -- An order by a whole number is irreflexive, and nothing below the lesser is below the greater.
 module _ (key : Packet → ℤ) where
   key-irrefl : (x : Packet) → ltZ (key x) (key x) ≡ false
-  key-irrefl x = false-is (ltZ (key x) (key x)) (irreflexive (key x))
+  key-irrefl x = false-is (ltZ (key x) (key x)) (λ h. omega (arith, orders))
 
   key-below : (x y z : Packet) → ltZ (key x) (key y) ≡ false → ltZ (key z) (key y) ≡ true → ltZ (key x) (key z) ≡ false
   key-below x y z e q = false-is (ltZ (key x) (key z)) (λ h.
-      irreflexive (key x) (lt-of (key x) (key y) (key x) (lt-of (key x) (key z) (key y) h (lt-le (key z) (key y) (is-true (ltZ (key z) (key y)) q))) (not-lt (key x) (key y) e)))
+      let a = not-lt (key x) (key y) e in let b = is-true (ltZ (key z) (key y)) q in omega (arith, orders))
 
 -- ---- the grant of a port, from the packets that wait for it
 
@@ -62,11 +62,12 @@ module _ (r : Router) (b p : ℕ) where
   abbrev ahead : Option (ℕ × Packet)
   ahead = least byTime earlyAt 256
 
+  -- The least is one of the keys.
   ready-in : (w : ℕ × Packet) → ready ≡ some w → Rests r p (onTime w)
   ready-in w q =
       let (l, f) = least-in byDeadline readyAt 256 (w .0) (w .1) q in
       let (u, v) = filter-some (λ x. leZ (x .time) (r .clock)) (waiting (r .place (w .0)) p) (w .1) f in
-      (l, u, v)
+      (l, u, is-true (leZ (w .1 .time) (r .clock)) v)
 
   -- By the two choices, and what the least is.
   pub grant-rests : Rests r p (grant r b p)
@@ -77,7 +78,7 @@ module _ (r : Router) (b p : ℕ) where
       cases w e true q =
           let (l, f) = least-in byTime earlyAt 256 (w .0) (w .1) e in
           let (u, v) = filter-some (λ x. ltZ (r .clock) (x .time)) (waiting (r .place (w .0)) p) (w .1) f in
-          (l, u, v, q)
+          (l, u, is-true (ltZ (r .clock) (w .1 .time)) v, is-true (leZ (w .1 .time -ℤ r .clock) (pos (r .horizon p))) q)
       cases w e false q = tt
 
       go : (o : Option (ℕ × Packet)) → ready ≡ o → (t : Bool) → (e : Option (ℕ × Packet)) → ahead ≡ e → Rests r p (granted o t e (r .clock) (r .horizon p))
@@ -109,6 +110,7 @@ module _ (r : Router) (b p : ℕ) where
       go none false q (some w) e = clash (leZ (w .1 .time -ℤ r .clock) (pos (r .horizon p))) w e
 
   module _ (none-ready : (i : ℕ) (x : Packet) → i < 256 → waiting (r .place i) p ≡ some x → T (ltZ (r .clock) (x .time))) where
+    -- The least would be on time.
     not-ready : ready ≡ none
     not-ready = go ready refl
       where
@@ -116,8 +118,8 @@ module _ (r : Router) (b p : ℕ) where
         go none q = refl
         go (some w) q =
             let (l, u, v) = ready-in w q in
-            let x = w .1 in
-            absurd (irreflexive (r .clock) (lt-of (r .clock) (x .time) (r .clock) (none-ready (w .0) x l u) (is-true (leZ (x .time) (r .clock)) v)))
+            let a = none-ready (w .0) (w .1) l u in
+            absurd (omega (arith, orders))
 
     -- Where nothing is on time, best-effort has the port if it waits.
     pub grant-waits : has b p ≡ true → grant r b p ≡ bestEffort
@@ -130,13 +132,8 @@ module _ (r : Router) (b p : ℕ) where
     grant-early f i x l e h =
         let (j, y, q, n) = least-beats byTime (key-irrefl (λ x. x .time)) (key-below (λ x. x .time)) earlyAt 256 i x l (filter-in (λ x. ltZ (r .clock) (x .time)) (waiting (r .place i) p) x e (true-is (ltZ (r .clock) (x .time)) (none-ready i x l e))) in
         let le = not-lt (x .time) (y .time) n in
-        let near = true-is (leZ (y .time -ℤ r .clock) (pos (r .horizon p))) (leZ-trans (y .time -ℤ r .clock) (x .time -ℤ r .clock) (pos (r .horizon p)) (diff-mono (r .clock) (y .time) (x .time) le) h) in
+        let near = true-is (leZ (y .time -ℤ r .clock) (pos (r .horizon p))) (omega (arith, orders, diff-nat (x .time) (r .clock), diff-nat (y .time) (r .clock))) in
         (j, y, ap₂ (λ v t. granted v t ahead (r .clock) (r .horizon p)) not-ready f ∙ ap (λ v. granted none false v (r .clock) (r .horizon p)) q ∙ ap (λ (t : Bool). cond t (early (j, y)) nobody) near, le)
-
--- It is one of the 256 places.
-pub grant-place : (r : Router) (p : ℕ) (g : Grant (ℕ × Packet)) → Rests r p g → (i : ℕ) (x : Packet) → (g ≡ onTime (i, x)) ⊎ (g ≡ early (i, x)) → i < 256
-grant-place r p g h i x (inl e) = (subst (Rests r p) e h) .0
-grant-place r p g h i x (inr e) = (subst (Rests r p) e h) .0
 
 -- A waiting packet is held, with the port left.
 pub waiting-held : (v : Option Held) (p : ℕ) (x : Packet) → waiting v p ≡ some x → (h : Held) × (v ≡ some h) × (h .packet ≡ x) × (has (h .left) p ≡ true)

@@ -1,4 +1,4 @@
--- Two families of keys in one order have their least at one index. Assumes nothing.
+-- The indices below k: the least of two families of keys in one order, tests of all, and counts. Assumes nothing.
 use Prim.Native.Nat.{ℕ, zero, suc, _+_, _<_, _≤_}
 use mathlib.Core.Path.{_≡_, refl, sym, ap, ap₂, subst, _∙_}
 use mathlib.Core.Bool.{Bool, true, false, cond, not, _&&_, true≢false, and-true, and-false}
@@ -10,6 +10,8 @@ use lib.Dec.{eqb}
 use borrow.Author.Tests.{eq-eqb, ne-eqb}
 use Rattle.rules.specs.Indices.{better, least, all, count, counted}
 use Rattle.rules.proofs.Booleans.{some-inj, none-some}
+
+-- ---- two families of keys in one order have their least at one index
 
 module _ {A B : Type 0} (lessA : A → A → Bool) (lessB : B → B → Bool) (R : A → B → Type 0)
     (same-order : (a a′ : A) (b b′ : B) → R a b → R a′ b′ → lessA a a′ ≡ lessB b b′) where
@@ -32,6 +34,7 @@ module _ {A B : Type 0} (lessA : A → A → Bool) (lessB : B → B → Bool) (R
   pick true i a b v w r h = (refl, r)
   pick false i a b v w r h = h
 
+  -- The next key is compared alike in both.
   better-same : (v : Option (ℕ × A)) (w : Option (ℕ × B)) (i : ℕ) (x : Option A) (y : Option B)
       → Least v w → Keys x y → Least (better lessA v i x) (better lessB w i y)
   unfolding better
@@ -56,23 +59,22 @@ module _ {A B : Type 0} (lessA : A → A → Bool) (lessB : B → B → Bool) (R
 -- ---- the least is one of the keys
 
 module _ {A : Type 0} (less : A → A → Bool) where
+  -- The key at k, where the better is new.
+  new-in : (key : ℕ → Option A) (k : ℕ) (y : A) → key k ≡ some y → (i : ℕ) (x : A) → _≡_ {A = Option (ℕ × A)} (some (k, y)) (some (i, x)) → (i < suc k) × (key i ≡ some x)
+  new-in key k y e i x q = let j : k ≡ i = ap (λ (w : ℕ × A). w .0) (some-inj q) in (omega arith, subst (λ (n : ℕ). key n ≡ some x) j (e ∙ ap (λ (w : ℕ × A). some (w .1)) (some-inj q)))
+
+  -- By cases of the two keys.
   better-in : (key : ℕ → Option A) (k : ℕ) (v : Option (ℕ × A)) (y : Option A) → key k ≡ y
       → ((i : ℕ) (x : A) → v ≡ some (i, x) → (i < k) × (key i ≡ some x))
       → (i : ℕ) (x : A) → better less v k y ≡ some (i, x) → (i < suc k) × (key i ≡ some x)
   unfolding better
   better-in key k none none e f i x q = none-some q
-  better-in key k none (some y) e f i x q =
-      let j : k ≡ i = ap (λ (w : ℕ × A). w .0) (some-inj q) in
-      let z : y ≡ x = ap (λ (w : ℕ × A). w .1) (some-inj q) in
-      (omega arith, subst (λ (n : ℕ). key n ≡ some x) j (e ∙ ap some z))
+  better-in key k none (some y) e f i x q = new-in key k y e i x q
   better-in key k (some w) none e f i x q = let h = f i x q in (omega (arith, h .0), h .1)
   better-in key k (some w) (some y) e f i x q = go (less y (w .1)) q
     where
       go : (t : Bool) → cond t (some (k, y)) (some w) ≡ some (i, x) → (i < suc k) × (key i ≡ some x)
-      go true q =
-          let j : k ≡ i = ap (λ (w : ℕ × A). w .0) (some-inj q) in
-          let z : y ≡ x = ap (λ (w : ℕ × A). w .1) (some-inj q) in
-          (omega arith, subst (λ (n : ℕ). key n ≡ some x) j (e ∙ ap some z))
+      go true q = new-in key k y e i x q
       go false q = let h = f i x q in (omega (arith, h .0), h .1)
 
   -- The least is one of the keys.
@@ -176,11 +178,9 @@ count-pos f (suc k) i l e = go (λ m. count-pos f k i m e) (decLt i k)
 pub count-two : (f : ℕ → Bool) (k i j : ℕ) → i < k → j < k → i ≢ j → f i ≡ true → f j ≡ true → 2 ≤ count k f
 count-two f k i j hi hj n ei ej =
     let a = count-change (λ l. f l && not (eqb l i)) f i k hi (λ l m. ap (λ (t : Bool). f l && not t) (ne-eqb l i m) ∙ and-true (f l)) in
-    let b = count-change (λ l. f l && not (eqb l i) && not (eqb l j)) (λ l. f l && not (eqb l i)) j k hj (λ l m. ap (λ (t : Bool). f l && not (eqb l i) && not t) (ne-eqb l j m) ∙ and-true (f l && not (eqb l i))) in
+    let b = count-pos (λ l. f l && not (eqb l i)) k j hj (rw (ej, ne-eqb j i (λ e. n (sym e)))) in
     let a₁ : counted (f i) ≡ 1 = ap counted ei ∙ counted-true in
-    let a₀ : counted (f i && not (eqb i i)) ≡ 0 = ap (λ (t : Bool). counted (f i && not t)) (eq-eqb i i refl) ∙ ap counted (and-false (f i)) ∙ counted-false in
-    let b₁ : counted (f j && not (eqb j i)) ≡ 1 = ap₂ (λ (s t : Bool). counted (s && not t)) ej (ne-eqb j i (λ e. n (sym e))) ∙ counted-true in
-    let b₀ : counted (f j && not (eqb j i) && not (eqb j j)) ≡ 0 = ap (λ (t : Bool). counted (f j && not (eqb j i) && not t)) (eq-eqb j j refl) ∙ ap counted (and-false (f j && not (eqb j i))) ∙ counted-false in
+    let a₀ : counted (f i && not (eqb i i)) ≡ 0 = rw (eq-eqb i i refl, and-false (f i)) counted-false in
     omega arith
 
 -- ---- the least is least
@@ -190,6 +190,7 @@ module _ {A : Type 0} (less : A → A → Bool) (irrefl : (x : A) → less x x �
   abbrev Beats : Option (ℕ × A) → A → Type 0
   Beats v x = (j : ℕ) × (y : A) × (v ≡ some (j, y)) × (less x y ≡ false)
 
+  -- A key is not less than the better of it and another.
   better-new : (v : Option (ℕ × A)) (k : ℕ) (x : A) → Beats (better less v k (some x)) x
   unfolding better
   better-new none k x = (k, x, refl, irrefl x)
@@ -199,6 +200,7 @@ module _ {A : Type 0} (less : A → A → Bool) (irrefl : (x : A) → less x x �
       go true e = (k, x, refl, irrefl x)
       go false e = (w .0, w .1, refl, e)
 
+  -- What beats a key is replaced only by what is less.
   better-old : (v : Option (ℕ × A)) (k : ℕ) (y : Option A) (x : A) → Beats v x → Beats (better less v k y) x
   unfolding better
   better-old none k y x (j, z, e, l) = none-some e

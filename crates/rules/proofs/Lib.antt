@@ -15,7 +15,7 @@ pub mod WholeLaws
 pub mod Grants
 pub mod Good
 pub mod Accounting
-pub mod Stage
+pub mod Relation
 pub mod RefineArrivals
 pub mod RefineServed
 pub mod RefineEmptied
@@ -27,4 +27,5 @@ pub mod RunPrompt
 pub mod Agreement
 pub mod Feed
 pub mod Theorem
+pub mod Soundness
 pub mod Room

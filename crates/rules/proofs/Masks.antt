@@ -15,11 +15,13 @@ use Rattle.rules.proofs.IndexLaws.{all-at, count-some}
 rule : ℕ → ℕ → ℕ → Bool
 rule m q p = leb (without m q) m && not (has (without m q) q) && (eqb p q || Bool·beq (has (without m q) p) (has m p))
 
+-- Computed.
 rules : all 32 (λ m. all 5 (λ q. all 5 (λ p. rule m q p))) ≡ true
 unfolding all rule has without
 rules = refl
 
 module _ (m q p : ℕ) (hm : m ≤ 31) (hq : q < 5) (hp : p < 5) where
+  -- The computed test, at one mask and two ports.
   at : rule m q p ≡ true
   at = all-at (λ p. rule m q p) 5 p (all-at (λ q. all 5 (λ p. rule m q p)) 5 q (all-at (λ m. all 5 (λ q. all 5 (λ p. rule m q p))) 32 m rules (omega arith)) hq) hp
 
@@ -31,6 +33,7 @@ module _ (m q p : ℕ) (hm : m ≤ 31) (hq : q < 5) (hp : p < 5) where
       beq-eq (has (without m q) p) (has m p) (rw (ne-eqb p q n) at e)
 
 module _ (m q : ℕ) (hm : m ≤ 31) (hq : q < 5) where
+  -- Its part that needs no second port.
   front : (leb (without m q) m && not (has (without m q) q)) ≡ true
   unfolding rule
   front = and-left (leb (without m q) m && not (has (without m q) q)) (eqb q q || Bool·beq (has (without m q) q) (has m q)) (at m q q hm hq hq)

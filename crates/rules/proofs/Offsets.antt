@@ -1,11 +1,11 @@
 -- The signed reading of a byte, by tests of the byte. Assumes nothing.
-use Prim.Native.Nat.{ℕ, zero, suc, _+_, _-_, _<_, _≤_}
+use Prim.Native.Nat.{ℕ, zero, suc, _-_, _<_, _≤_}
 use mathlib.Core.Path.{_≡_, refl, sym, ap, _∙_}
-use mathlib.Core.Bool.{Bool, true, false, cond, not, _||_, Bool·beq}
+use mathlib.Core.Bool.{Bool, true, not, _||_, Bool·beq}
 use native.Mathlib.Decide.{decLt}
 use native.Mathlib.Omega.{arith}
 use lib.Dec.{leb, ltb, eqb, leb·suc-suc}
-use lib.IntN.{ℤ, pos, negsuc, negℤ, subℕ}
+use lib.IntN.{ℤ, pos, negsuc, negℤ}
 use lib.Signed.{leZ, ltZ}
 use borrow.Author.Tests.{lt-ltb, le-ltb, lt-leb, le-leb}
 use Rattle.rules.specs.Clock.{minus, signed, offset}
@@ -14,20 +14,17 @@ use Rattle.rules.specs.Indices.{all}
 use Rattle.rules.proofs.Booleans.{beq-eq}
 use Rattle.rules.proofs.IndexLaws.{all-at}
 
--- At most 0, and at most 126: computed at each byte.
+-- A test computed at each byte.
+at-most : (n : ℕ) (t : ℕ → Bool) → all 256 (λ x. Bool·beq (leZ (signed 8 x) (pos n)) (t x)) ≡ true → (x : ℕ) → x < 256 → leZ (signed 8 x) (pos n) ≡ t x
+at-most n t e x h = beq-eq (leZ (signed 8 x) (pos n)) (t x) (all-at (λ x. Bool·beq (leZ (signed 8 x) (pos n)) (t x)) 256 x e h)
+
 zero-test : all 256 (λ x. Bool·beq (leZ (signed 8 x) (pos 0)) (eqb x 0 || leb 128 x)) ≡ true
 unfolding all signed
 zero-test = refl
 
-at-most-0 : (x : ℕ) → x < 256 → leZ (signed 8 x) (pos 0) ≡ (eqb x 0 || leb 128 x)
-at-most-0 x h = beq-eq (leZ (signed 8 x) (pos 0)) (eqb x 0 || leb 128 x) (all-at (λ x. Bool·beq (leZ (signed 8 x) (pos 0)) (eqb x 0 || leb 128 x)) 256 x zero-test h)
-
 far-test : all 256 (λ x. Bool·beq (leZ (signed 8 x) (pos 126)) (not (eqb x 127))) ≡ true
 unfolding all signed
 far-test = refl
-
-at-most-126 : (x : ℕ) → x < 256 → leZ (signed 8 x) (pos 126) ≡ not (eqb x 127)
-at-most-126 x h = beq-eq (leZ (signed 8 x) (pos 126)) (not (eqb x 127)) (all-at (λ x. Bool·beq (leZ (signed 8 x) (pos 126)) (not (eqb x 127))) 256 x far-test h)
 
 -- At least - d.
 not-below : (d x : ℕ) → leZ (negℤ (pos d)) (pos x) ≡ true
@@ -38,6 +35,7 @@ below : (d y : ℕ) → leZ (negℤ (pos d)) (negsuc y) ≡ leb (suc y) d
 below zero y = sym (lt-leb (suc y) 0 (omega arith))
 below (suc d) y = sym (leb·suc-suc y d)
 
+-- By cases of the sign.
 at-least : (d x : ℕ) → x < 256 → leZ (negℤ (pos d)) (signed 8 x) ≡ (ltb x 128 || leb (256 - x) d)
 unfolding signed
 at-least d x h = go (decLt x 128)
@@ -73,10 +71,10 @@ module _ (a t x : ℕ) (e : x ≡ minus (bits 1) a t) where
   is = ap (signed 8) (sym e)
 
   pub offset-at-most-0 : leZ (offset (bits 1) a t) (pos 0) ≡ (eqb x 0 || leb 128 x)
-  offset-at-most-0 = rw is (at-most-0 x small)
+  offset-at-most-0 = rw is (at-most 0 (λ x. eqb x 0 || leb 128 x) zero-test x small)
 
   pub offset-at-most-126 : leZ (offset (bits 1) a t) (pos 126) ≡ not (eqb x 127)
-  offset-at-most-126 = rw is (at-most-126 x small)
+  offset-at-most-126 = rw is (at-most 126 (λ x. not (eqb x 127)) far-test x small)
 
   pub offset-at-least : (d : ℕ) → leZ (negℤ (pos d)) (offset (bits 1) a t) ≡ (ltb x 128 || leb (256 - x) d)
   offset-at-least d = rw is (at-least d x small)

@@ -1,41 +1,41 @@
--- The relation of store and router between calls: it makes the store sound, and every call keeps it with equal replies. Assumes nothing.
-use Prim.Native.Nat.{ℕ, _-_, _/_, _%_, _<_, _≤_}
-use mathlib.Core.Path.{_≡_, refl, sym, ap, ap₂, subst, _∙_}
-use mathlib.Core.Bool.{Bool, true, false, cond, not, _&&_, _||_, Bool·beq}
+-- The relation makes the store sound, and a tick keeps it with equal replies. Assumes nothing.
+use Prim.Native.Nat.{ℕ, _-_, _/_, _%_, _<_}
+use mathlib.Core.Path.{_≡_, refl, sym, ap, ap₂, _∙_}
+use mathlib.Core.Bool.{Bool, true, not, _&&_, _||_}
 use mathlib.Core.List.{List, [], _∷_, _++_}
 use mathlib.Core.Option.{Option, none, some}
 use native.Mathlib.Omega.{arith}
 use lib.ListN.{length, length-replicate}
 use lib.Seq.{take-at}
-use lib.Dec.{T, leb, ltb, eqb}
-use lib.IntN.{ℤ, pos, negℤ, _-ℤ_}
+use lib.Dec.{leb, ltb, eqb}
+use lib.IntN.{ℤ, pos, negℤ, sucℤ, _-ℤ_}
 use lib.Signed.{leZ}
 use borrow.Author.Tests.{eq-eqb, ne-eqb, le-leb, lt-ltb, lt-ltb}
 use Rattle.rules.specs.Account.{Kept}
-use Rattle.rules.specs.Areas.{bits, half, value, digits, packet, stamp, packed, perPort, answersArea, Grant, nobody, bestEffort, onTime, early, elem, distinct, Store, Reply}
-use Rattle.rules.specs.Board.{Board, Field, clock, horizon, latch, free, idle, time, deadline, mask, outgoing, delay, routes}
+use Rattle.rules.specs.Areas.{bits, half, value, digits, packet, stamp, packed, perPort, answersArea, Grant, nobody, bestEffort, onTime, early, elem, distinct, Store}
+use Rattle.rules.specs.Board.{Board, clock, horizon, latch, free, idle, time, deadline, mask, outgoing, delay, routes}
 use Rattle.rules.specs.Clock.{cut, plus, minus, offset}
-use Rattle.rules.specs.Demand3.{PlaceShown}
 use Rattle.rules.specs.Questions.{settingsSound, connectionSound, horizonSound, stackSound, listed, slotsSound, stack, slotSound, sound, full}
-use Rattle.rules.specs.Tick.{arrived, served, withdrawn, returned, withdrawals}
-use Rattle.rules.specs.Whole.{Held, Router, TickCall, Report, withPlaces, advanced, settings, settle, emptied, packetBytes, outgoingBytes, answerBytes, isHeld}
-use Rattle.rules.proofs.BoardLaws.{Laws, kind, Valid}
+use Rattle.rules.specs.Tick.{arrived, served, withdrawn, returned}
+use Rattle.rules.specs.Whole.{Held, Router, TickCall, settings, emptied, packetBytes, outgoingBytes, answerBytes, isHeld}
+use Rattle.rules.proofs.BoardLaws.{Laws}
 use Rattle.rules.specs.Tick as Tick
 use Rattle.rules.specs.Whole as Whole
 use Rattle.rules.proofs.Booleans.{and-both, or-right, eq-beq, true-is}
 use Rattle.rules.proofs.IndexLaws.{all-true}
-use Rattle.rules.proofs.Integers.{lt-pred}
-use Rattle.rules.proofs.WholeLaws.{AllHeld, emptied-at, emptied-kept}
+use Rattle.rules.proofs.Integers.{orders}
+use Rattle.rules.proofs.WholeLaws.{AllHeld, emptied-kept}
 use Rattle.rules.proofs.Grants.{Rests, grant-rests, waiting-held}
-use Rattle.rules.proofs.Good.{Fit, HeldFit, Busy, Good, Input, fit-more, after, arrivals-busy, serving, served-held, served-kept, served-fit, clock-at, ended-frame}
+use Rattle.rules.proofs.Good.{Fit, HeldFit, Busy, Good, Input, fit-more, after, arrivals-busy, serving, served-held, served-kept, served-fit, fit-then}
 use Rattle.rules.proofs.TimeLaws.{cut-suc, fit-offset, fit-delay, fit-from}
 use Rattle.rules.proofs.AreaLaws.{value-digits, length-digits, length-packed, packet-perPort}
-use Rattle.rules.proofs.StateLaws.{Only, only-refl, only-put, put-same, stack-only, length-stack}
-use Rattle.rules.proofs.Stage.{inner, Here, Settled, Stage, kept-room}
-use Rattle.rules.proofs.RefineArrivals.{arrived-stage, arrived-code}
-use Rattle.rules.proofs.RefineServed.{served-stage, served-bytes, served-code}
-use Rattle.rules.proofs.RefineEmptied.{backs, ended-only, ended-place, withdrawals-same}
+use Rattle.rules.proofs.StateLaws.{reads-self, reads-as, reads-put, reads-off}
+use Rattle.rules.proofs.Relation.{on-settings, Settled, Here, Rel, with-state, rel-room, rel-settings}
+use Rattle.rules.proofs.RefineArrivals.{arrived-rel, arrived-code}
+use Rattle.rules.proofs.RefineServed.{served-rel, served-bytes, served-code}
+use Rattle.rules.proofs.RefineEmptied.{ended-rel, withdrawals-same}
 
+-- Port by port.
 perPort-same : (f g : ℕ → List ℕ) → ((p : ℕ) → p < 5 → f p ≡ g p) → perPort f ≡ perPort g
 unfolding perPort
 perPort-same f g h = rw (h 0 (omega arith), h 1 (omega arith), h 2 (omega arith), h 3 (omega arith), h 4 (omega arith))
@@ -47,59 +47,30 @@ answers-area {g} {g′} {a} {a′} {n} {n′} G A N =
     (ap₂ (λ (x y : List ℕ). x ++ y) (perPort-same (λ p. g p ∷ []) (λ p. g′ p ∷ []) (λ p l. ap (λ (k : ℕ). k ∷ []) (G p l))) (perPort-same (λ p. a p ∷ []) (λ p. a′ p ∷ []) (λ p l. ap (λ (k : ℕ). k ∷ []) (A p l))))
     (perPort-same (λ p. n p / 256 ∷ n p % 256 ∷ []) (λ p. n′ p / 256 ∷ n′ p % 256 ∷ []) (λ p l. ap (λ (k : ℕ). k / 256 ∷ k % 256 ∷ []) (N p l)))
 
--- The time in a packed header.
-stamp-packed : (c i v : ℕ) (l : List ℕ) → 0 < c → stamp c (packed c i v l) ≡ v
-unfolding stamp packed
-stamp-packed c i v l h = ap value (take-at (digits c v) l c (length-digits c v)) ∙ value-digits c v h
-
+-- The time in a packet's header is its deadline, cut.
 stamp-bytes : (c : ℕ) (y : Whole.Packet) → 0 < c → stamp c (packetBytes c y) ≡ cut (bits c) (y .deadline)
-unfolding packetBytes
-stamp-bytes c y h = stamp-packed c (y .identifier) (cut (bits c) (y .deadline)) (y .payload) h
+unfolding packetBytes stamp packed
+stamp-bytes c y h = let v = cut (bits c) (y .deadline) in ap value (take-at (digits c v) (y .payload) c (length-digits c v)) ∙ value-digits c v h
 
 module _ (B : Board) (L : Laws B) where
   open Board B using (clockBytes as c, stateLength, get, put)
 
-  pub record Rel (r : Store) (w : Router) : Type 0 where
-    pub settled : Settled B L (r .state) w
-    pub whole : length (r .memory) ≡ 5120
-    pub place : (i : ℕ) → i < 256 → PlaceShown B r i (w .place i)
-    pub stack : stack B (r .state) ≡ w .free
-
-  -- The store with another state.
-  abbrev pub with-state : Store → List ℕ → Store
-  with-state r s = record { state = s; memory = r .memory }
-
-  place-here : (r : Store) (i : ℕ) (v : Option Held) → PlaceShown B r i v → Here B L r i v
-  place-here r i none h = h
-  place-here r i (some x) h = h .0
-
-  -- Slots show their places as long as only fields of other kinds change.
-  pub place-only : (t : ℕ → Bool) (r : Store) (s : List ℕ) → Only B L t (r .state) s → t 5 ≡ false → t 6 ≡ false → t 7 ≡ false → (i : ℕ) → i < 256 → (v : Option Held) → PlaceShown B r i v → PlaceShown B (with-state r s) i v
-  place-only t r s O h₅ h₆ h₇ i l none h = O .same (mask i) h₇ l ∙ h
-  place-only t r s O h₅ h₆ h₇ i l (some x) (h, n) = (record { time = O .same (time i) h₅ l ∙ h .time; deadline = O .same (deadline i) h₆ l ∙ h .deadline; left = O .same (mask i) h₇ l ∙ h .left; bytes = h .bytes }, n)
-
+  -- A packet held has a port left.
   mask-held : (r : Store) (i : ℕ) (v : Option Held) → Here B L r i v → ((h : Held) → v ≡ some h → Busy h) → eqb (get (r .state) (mask i)) 0 ≡ not (isHeld v)
   unfolding isHeld
   mask-held r i none h b = eq-eqb (get (r .state) (mask i)) 0 h
   mask-held r i (some x) h b = ne-eqb (get (r .state) (mask i)) 0 (λ e. let n = b x refl in let q = h .left in omega arith)
 
-  module _ {r : Store} {w : Router} (R : Rel r w) (G : Good c w) where
+  module _ {r : Store} {w : Router} (R : Rel B L r w) (G : Good c w) where
     abbrev s : List ℕ
     s = r .state
 
-    rel-stage : Stage B L s r (w .place) (w .free)
-    rel-stage = record { frame = only-refl B L inner s; whole = R .whole; place = λ i l. place-here r i (w .place i) (R .place i l); stack = R .stack }
-
-    -- The free count is the length of the free list.
-    pub rel-free : get s free ≡ length (w .free)
-    rel-free = sym (length-stack B L s) ∙ ap length (R .stack)
-
-    -- It is at most 256.
-    pub rel-room : get s free ≤ 256
-    rel-room = let e = rel-free in let k = kept-room B L (G .kept) in omega arith
+    abbrev S : Settled B L s w
+    S = R .settled
 
     -- ---- the store is sound
 
+    -- An empty slot has mask 0; a packet's readings are its times cut, and these are in range.
     slot-sound : (i : ℕ) → i < 256 → slotSound B r i ≡ true
     unfolding slotSound
     slot-sound i l = go (w .place i) refl (R .place i l)
@@ -113,39 +84,40 @@ module _ (B : Board) (L : Laws B) where
         fits : Bool
         fits = leb (get s (mask i)) 31 && ltb d (half c) && leZ (negℤ (pos d)) o && leZ o (pos (half c - 2)) && eqb (stamp c (packet (r .memory) i)) (get s (deadline i))
 
-        go : (v : Option Held) → w .place i ≡ v → PlaceShown B r i v → (eqb (get s (mask i)) 0 || fits) ≡ true
+        go : (v : Option Held) → w .place i ≡ v → Here B L r i v → (eqb (get s (mask i)) 0 || fits) ≡ true
         go none e h = ap (λ (b : Bool). b || fits) (eq-eqb (get s (mask i)) 0 h)
-        go (some x) e (H, n) =
+        go (some x) e H =
             let F = G .fit i l x e in
             let y = x .packet in
             let F′ : Fit c (w .clock) (half c) y = fit-more c (w .clock) (half c - 1) (half c) y (omega arith) (F .fit) in
             let ed : d ≡ F′ .delay = ap₂ (minus (bits c)) (H .deadline) (H .time) ∙ fit-delay c (w .clock) y F′ in
-            let eo : o ≡ y .time -ℤ w .clock = ap₂ (offset (bits c)) (H .time) (R .settled .clock) ∙ fit-offset c (w .clock) y F′ in
-            let two : half c - 1 - 1 ≡ half c - 2 = omega arith in
+            let eo : o ≡ y .time -ℤ w .clock = ap₂ (offset (bits c)) (H .time) (S .same clock refl (omega arith)) ∙ fit-offset c (w .clock) y F′ in
+            let soon = F .fit .soon in
             let five = le-leb (get s (mask i)) 31 (omega (arith, H .left, F .left)) in
             let small = lt-ltb d (half c) (omega (arith, ed, F′ .small)) in
             let from : leZ (negℤ (pos d)) o ≡ true = ap₂ (λ (n : ℕ) (z : ℤ). leZ (negℤ (pos n)) z) ed eo ∙ true-is (leZ (negℤ (pos (F′ .delay))) (y .time -ℤ w .clock)) (fit-from c (w .clock) y F′) in
-            let to : leZ o (pos (half c - 2)) ≡ true = ap₂ (λ (z : ℤ) (n : ℕ). leZ z (pos n)) eo (sym two) ∙ true-is (leZ (y .time -ℤ w .clock) (pos (half c - 1 - 1))) (lt-pred (y .time -ℤ w .clock) (half c - 1) (F .fit .soon)) in
+            let to : leZ o (pos (half c - 2)) ≡ true = rw eo (true-is (leZ (y .time -ℤ w .clock) (pos (half c - 2))) (omega (arith, orders))) in
             let header = eq-eqb (stamp c (packet (r .memory) i)) (get s (deadline i)) (ap (stamp c) (H .bytes) ∙ stamp-bytes c y (L .some-bytes) ∙ sym (H .deadline)) in
             or-right (eqb (get s (mask i)) 0) fits (rw (five, small, from, to) header)
 
+    -- Each setting reads as the router's, which is in range.
     settings-sound : settingsSound B s ≡ true
     unfolding settingsSound
     settings-sound =
-        let S = R .settled in
-        let connections = all-true (connectionSound B s) 256 (λ i l. and-both (ltb (get s (delay i)) (half c)) (leb (get s (routes i)) 31) (lt-ltb (get s (delay i)) (half c) (omega (arith, S .delay i l, G .settings .delay i l))) (le-leb (get s (routes i)) 31 (omega (arith, S .routes i l, G .settings .routes i l)))) in
-        let horizons = all-true (horizonSound B s) 5 (λ p l. lt-ltb (get s (horizon p)) (half c) (omega (arith, S .horizon p l, G .settings .horizon p l))) in
-        let a₁ = lt-ltb (get s (latch 1)) (half c) (omega (arith, S .latch 1 (omega arith), G .settings .latch1)) in
-        let a₂ = le-leb (get s (latch 2)) 31 (omega (arith, S .latch 2 (omega arith), G .settings .latch2)) in
-        let a₃ = le-leb (get s (latch 3)) 31 (omega (arith, S .latch 3 (omega arith), G .settings .latch3)) in
+        let connections = all-true (connectionSound B s) 256 (λ i l. and-both (ltb (get s (delay i)) (half c)) (leb (get s (routes i)) 31) (lt-ltb (get s (delay i)) (half c) (omega (arith, S .same (delay i) refl l, G .settings .entry i l .delay))) (le-leb (get s (routes i)) 31 (omega (arith, S .same (routes i) refl l, G .settings .entry i l .mask)))) in
+        let horizons = all-true (horizonSound B s) 5 (λ p l. lt-ltb (get s (horizon p)) (half c) (omega (arith, S .same (horizon p) refl l, G .settings .horizon p l))) in
+        let a₁ = lt-ltb (get s (latch 1)) (half c) (omega (arith, S .same (latch 1) refl (omega arith), G .settings .latch .delay)) in
+        let a₂ = le-leb (get s (latch 2)) 31 (omega (arith, S .same (latch 2) refl (omega arith), G .settings .latch .mask)) in
+        let a₃ = le-leb (get s (latch 3)) 31 (omega (arith, S .same (latch 3) refl (omega arith), G .settings .ports)) in
         rw (connections, horizons, a₁, a₂) a₃
 
+    -- The stack is the free list, which has each empty place once.
     stack-sound : stackSound B s ≡ true
     unfolding stackSound
     stack-sound =
-        let room = le-leb (get s free) 256 rel-room in
+        let room = le-leb (get s free) 256 (rel-room B L R (G .kept)) in
         let once : distinct (stack B s) ≡ true = ap distinct (R .stack) ∙ G .kept .once in
-        let slots = all-true (listed B s) 256 (λ i l. eq-beq (elem i (stack B s)) (eqb (get s (mask i)) 0) (ap (elem i) (R .stack) ∙ G .kept .idle i l ∙ sym (mask-held r i (w .place i) (place-here r i (w .place i) (R .place i l)) (G .busy i l)))) in
+        let slots = all-true (listed B s) 256 (λ i l. eq-beq (elem i (stack B s)) (eqb (get s (mask i)) 0) (ap (elem i) (R .stack) ∙ G .kept .idle i l ∙ sym (mask-held r i (w .place i) (R .place i l) (G .busy i l)))) in
         rw (room, once) slots
 
     -- Question 2 is passed, part by part.
@@ -156,11 +128,11 @@ module _ (B : Board) (L : Laws B) where
     -- Question 1 is passed.
     pub rel-full : full B r ≡ true
     unfolding full
-    rel-full = and-both (eqb (length s) stateLength) (eqb (length (r .memory)) 5120) (eq-eqb (length s) stateLength (R .settled .sized)) (eq-eqb (length (r .memory)) 5120 (R .whole))
+    rel-full = and-both (eqb (length s) stateLength) (eqb (length (r .memory)) 5120) (eq-eqb (length s) stateLength (S .sized)) (eq-eqb (length (r .memory)) 5120 (R .whole))
 
     -- ---- a tick
 
-    module _ (call : TickCall) (I : Input c w call) where
+    module _ (call : TickCall) (I : Input c (w .clock) call) where
       abbrev b : ℕ
       b = call .bestEffort
 
@@ -173,80 +145,41 @@ module _ (B : Board) (L : Laws B) where
       abbrev s₂ : List ℕ
       s₂ = served B 5 b (r₁ .state)
 
-      A₁ : Stage B L s r₁ (after c w call 5 .place) (after c w call 5 .free)
-      A₁ = arrived-stage B L (R .settled) G call I rel-stage 5 (omega arith)
+      -- The relation after each step.
+      R₁ : Rel B L r₁ (after c w call 5)
+      R₁ = arrived-rel B L R G call I 5 (omega arith)
 
-      A₂ : Stage B L s (record { state = s₂; memory = r₁ .memory }) (w₂ .place) (w₂ .free)
-      A₂ = served-stage B L (R .settled) G call I A₁ 5 (omega arith)
+      R₂ : Rel B L (with-state B L r₁ s₂) w₂
+      R₂ = served-rel B L G call I R₁ 5 (omega arith)
 
+      -- A slot had a port to serve after the arrivals just where its place holds a packet.
       was : (i : ℕ) → i < 256 → eqb (get (r₁ .state) (mask i)) 0 ≡ not (isHeld (w₂ .place i))
-      was i l = mask-held r₁ i (after c w call 5 .place i) (A₁ .place i l) (arrivals-busy c w call G I 5 i l) ∙ ap not (sym (served-held c w call 5 i))
+      was i l = mask-held r₁ i (after c w call 5 .place i) (R₁ .place i l) (arrivals-busy c w call G I 5 i l) ∙ ap not (sym (served-held c w call 5 i))
 
       K₂ : Kept (w₂ .place) (w₂ .free)
       K₂ = served-kept c w call G I 5
 
-      F₂ : AllHeld (HeldFit c (w .clock) (half c)) (w₂ .place)
-      F₂ = served-fit c w call G I 5 (omega arith)
+      F₂ : AllHeld (HeldFit c (w₂ .clock) (half c)) (w₂ .place)
+      F₂ = fit-then c w call G I 5 (omega arith)
 
       abbrev s₄ : List ℕ
       s₄ = returned B 256 (r₁ .state) (withdrawn B 256 s₂)
 
-      abbrev s₅ : List ℕ
-      s₅ = put s₄ clock (plus (bits c) (get s₄ clock) 1)
+      abbrev w₄ : Router
+      w₄ = emptied (w₂ .clock) 256 w₂
 
-      abbrev e : Router
-      e = emptied (w .clock) 256 w₂
+      R₄ : Rel B L (with-state B L r₁ s₄) w₄
+      R₄ = ended-rel B L R₂ K₂ F₂ (r₁ .state) was
 
-      O₄ : Only B L inner s s₄
-      O₄ = ended-only B L (R .settled) w₂ A₂ K₂ F₂ (r₁ .state) was
-
-      z₄ : length s₄ ≡ stateLength
-      z₄ = O₄ .sized ∙ R .settled .sized
-
-      clocks : ℕ → Bool
-      clocks k = eqb k 0
-
-      O₅ : Only B L clocks s₄ s₅
-      unfolding clocks
-      O₅ = only-put B L s₄ z₄ clock (plus (bits c) (get s₄ clock) 1) (omega arith) clocks refl
-
-      -- A setting other than the clock.
-      setting : (f : Field) → clocks (kind f) ≡ false → inner (kind f) ≡ false → Valid f → get s₅ f ≡ get s f
-      setting f a b v = O₅ .same f a v ∙ O₄ .same f b v
-
-      -- The places and free places after the tick, with the settings met.
-      tick-rel′ : Rel (record { state = s₅; memory = r₁ .memory }) (advanced (withPlaces w (e .place) (e .free)))
-      unfolding clocks
-      tick-rel′ =
-          let S = R .settled in
-          record {
-            settled = record {
-              sized = O₅ .sized ∙ z₄;
-              clock = put-same B L s₄ z₄ clock (plus (bits c) (get s₄ clock) 1) (omega arith) ∙ ap (λ (n : ℕ). plus (bits c) n 1) (O₄ .same clock refl (omega arith) ∙ S .clock) ∙ cut-suc (bits c) (w .clock);
-              horizon = λ p l. setting (horizon p) refl refl l ∙ S .horizon p l;
-              latch = λ q l. setting (latch q) refl refl l ∙ S .latch q l;
-              identifier = λ i l. setting (outgoing i) refl refl l ∙ S .identifier i l;
-              delay = λ i l. setting (delay i) refl refl l ∙ S .delay i l;
-              routes = λ i l. setting (routes i) refl refl l ∙ S .routes i l;
-            };
-            whole = A₂ .whole;
-            place = λ i l.
-                place-only clocks (record { state = s₄; memory = r₁ .memory }) s₅ O₅ refl refl refl i l (e .place i)
-                (subst (PlaceShown B (record { state = s₄; memory = r₁ .memory }) i) (sym (emptied-at (w .clock) 256 w₂ i ∙ ap (λ (t : Bool). cond t (settle (w .clock) (w₂ .place i)) (w₂ .place i)) (lt-ltb i 256 l)))
-                (ended-place B L (R .settled) w₂ A₂ K₂ F₂ (r₁ .state) was i l));
-            stack =
-                let q = backs B L (R .settled) w₂ A₂ K₂ F₂ (r₁ .state) was 256 (omega arith) .stacked in
-                let n : get s₄ free ≡ length (e .free) = sym (length-stack B L s₄) ∙ ap length q in
-                let room = kept-room B L (emptied-kept (w .clock) 256 w₂ (omega arith) K₂) in
-                stack-only B L clocks s₄ s₅ O₅ refl refl (omega arith) ∙ q;
-          }
-
-      -- A tick keeps the relation.
-      pub tick-rel : Rel (Tick.ticked B r (call .arriving) b (call .arrivals) .store) (Whole.ticked c w call .router)
+      -- A tick keeps the relation: the last step stores the clock alone.
+      pub tick-rel : Rel B L (Tick.ticked B r (call .arriving) b (call .arrivals) .store) (Whole.ticked c w call .router)
       unfolding Tick.ticked Whole.ticked
       tick-rel =
-          subst (λ x. Rel (record { state = s₅; memory = r₁ .memory }) (advanced x)) (sym (ended-frame c w call))
-          (subst (λ (z : ℤ). Rel (record { state = s₅; memory = r₁ .memory }) (advanced (withPlaces w (emptied z 256 w₂ .place) (emptied z 256 w₂ .free)))) (sym (clock-at c w call 5)) tick-rel′)
+          let v = plus (bits c) (get s₄ clock) 1 in
+          let e : v ≡ cut (bits c) (sucℤ (w₄ .clock)) = ap (λ (n : ℕ). plus (bits c) n 1) (R₄ .settled .same clock refl (omega arith)) ∙ cut-suc (bits c) (w₄ .clock) in
+          rel-settings B L R₄ (emptied-kept (w₂ .clock) 256 w₂ (omega arith) K₂)
+          (reads-as B L (reads-put B L (R₄ .settled) clock v (omega arith)) (on-settings _ _ e (λ p l. refl) (λ q l. refl) (λ i l. (refl, refl, refl))))
+          (reads-off B L (reads-self B L s₄ (R₄ .settled .sized)) clock v (omega arith) refl) refl refl
 
       -- What goes out for a port has 20 bytes.
       waiting-length : (q : ℕ) → q < 5 → (i : ℕ) (x : Whole.Packet) → i < 256 → Whole.waiting (serving c w call q .place i) q ≡ some x → length (packetBytes c x) ≡ 20
@@ -256,12 +189,13 @@ module _ (B : Board) (L : Laws B) where
           let f = served-fit c w call G I q (omega arith) i l k ev in
           length-packed c (x .identifier) (cut (bits c) (x .deadline)) (x .payload) (ap (λ (y : Whole.Packet). length (y .payload)) (sym ex) ∙ f .fit .size) (L .few-bytes)
 
+      -- A packet granted waits, so it fits.
       granted-length : (q : ℕ) → q < 5 → (g : Grant (ℕ × Whole.Packet)) → Rests (serving c w call q) q g → length (Whole.grantBytes c g) ≡ 20
       unfolding Whole.grantBytes packetBytes
-      granted-length q h nobody R = length-replicate {A = ℕ} 20 0
-      granted-length q h bestEffort R = length-replicate {A = ℕ} 20 0
-      granted-length q h (onTime (i, x)) R = waiting-length q h i x (R .0) (R .1)
-      granted-length q h (early (i, x)) R = waiting-length q h i x (R .0) (R .1)
+      granted-length q h nobody a = length-replicate {A = ℕ} 20 0
+      granted-length q h bestEffort a = length-replicate {A = ℕ} 20 0
+      granted-length q h (onTime (i, x)) a = waiting-length q h i x (a .0) (a .1)
+      granted-length q h (early (i, x)) a = waiting-length q h i x (a .0) (a .1)
 
       grant-length : (q : ℕ) → q < 5 → length (Whole.grantBytes c (Whole.ticked c w call .report .grant q)) ≡ 20
       unfolding Whole.ticked
@@ -270,23 +204,17 @@ module _ (B : Board) (L : Laws B) where
       -- The outgoing areas are equal.
       outgoing-same : Tick.ticked B r (call .arriving) b (call .arrivals) .reply .outgoing ≡ outgoingBytes c (Whole.ticked c w call .report)
       unfolding Tick.ticked Whole.ticked outgoingBytes
-      outgoing-same = perPort-same (λ p. Tick.grantBytes (r₁ .memory) (Tick.grant B (served B p b (r₁ .state)) b p)) (λ p. Whole.grantBytes c (Whole.grant (serving c w call p) b p)) (λ p l. served-bytes B L (R .settled) G call I A₁ p l)
+      outgoing-same = perPort-same (λ p. Tick.grantBytes (r₁ .memory) (Tick.grant B (served B p b (r₁ .state)) b p)) (λ p. Whole.grantBytes c (Whole.grant (serving c w call p) b p)) (λ p l. served-bytes B L G call I R₁ p l)
 
       -- The outgoing area holds, port by port, what was granted.
       pub sends-same : (p : ℕ) → p < 5 → packet (Tick.ticked B r (call .arriving) b (call .arrivals) .reply .outgoing) p ≡ Whole.grantBytes c (Whole.ticked c w call .report .grant p)
       unfolding outgoingBytes
-      sends-same p l = ap (λ (x : List ℕ). packet x p) outgoing-same ∙ packet-outgoing (Whole.ticked c w call .report) (λ q h. grant-length q h) p l
-        where
-          packet-outgoing : (t : Report) → ((q : ℕ) → q < 5 → length (Whole.grantBytes c (t .grant q)) ≡ 20) → (p : ℕ) → p < 5 → packet (outgoingBytes c t) p ≡ Whole.grantBytes c (t .grant p)
-          packet-outgoing t h p l = packet-perPort (λ p. Whole.grantBytes c (t .grant p)) h p l
-
-      count-same : (p : ℕ) → p < 5 → withdrawals B s₂ p ≡ length (Whole.withdrawn (w₂ .clock) (w₂ .place) p 256)
-      count-same p l = withdrawals-same B L (R .settled) w₂ A₂ K₂ F₂ (r₁ .state) was p l ∙ ap (λ (z : ℤ). length (Whole.withdrawn z (w₂ .place) p 256)) (sym (clock-at c w call 5))
+      sends-same p l = ap (λ (x : List ℕ). packet x p) outgoing-same ∙ packet-perPort (λ p. Whole.grantBytes c (Whole.ticked c w call .report .grant p)) grant-length p l
 
       -- The answers are equal.
       answers-same : Tick.ticked B r (call .arriving) b (call .arrivals) .reply .answers ≡ answerBytes (Whole.ticked c w call .report)
       unfolding Tick.ticked Whole.ticked answerBytes
-      answers-same = answers-area (λ p l. served-code B L (R .settled) G call I A₁ p l) (λ p l. arrived-code B L (R .settled) G call I rel-stage p l) count-same
+      answers-same = answers-area (λ p l. served-code B L G call I R₁ p l) (λ p l. arrived-code B L R G call I p l) (λ p l. withdrawals-same B L R₂ K₂ F₂ (r₁ .state) was p l)
 
       -- So is what the caller sees.
       pub reply-same : Tick.ticked B r (call .arriving) b (call .arrivals) .reply ≡ record { number = 0; outgoing = outgoingBytes c (Whole.ticked c w call .report); answers = answerBytes (Whole.ticked c w call .report) }

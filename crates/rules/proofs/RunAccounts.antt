@@ -1,32 +1,32 @@
 -- The accounts of a run: what its ticks send and withdraw, counted over them; each accepted packet is one by its tick and port of arrival. Assumes nothing.
 use Prim.Native.Nat.{ℕ, zero, suc, _+_, _<_, _≤_}
-use mathlib.Core.Path.{_≡_, refl, sym, ap, subst, _∙_}
+use mathlib.Core.Path.{_≡_, refl, sym, ap, ap₂, subst, _∙_}
 use mathlib.Core.Bool.{Bool, true, false, cond, _&&_, true≢false, and-true, and-false}
 use mathlib.Core.Logic.{_≢_, _⊎_, inl, inr}
-use mathlib.Core.List.{List, [], _∷_, List·Memᴰ, List·Memᴰ·head, List·Memᴰ·tail, List·Memᴰ·not-nil, List·Memᴰ·cases-cons, List·Memᴰ·append-cases, List·Memᴰ·eq-of-singleton}
+use mathlib.Core.List.{List, [], _∷_, _++_, List·Memᴰ, List·Memᴰ·head, List·Memᴰ·tail, List·Memᴰ·not-nil, List·Memᴰ·append-cases, List·Memᴰ·eq-of-singleton, Memᴰ·append-left}
 use mathlib.Core.Option.{Option, none, some}
 use native.Mathlib.Omega.{arith}
 use lib.Dec.{T, eqb}
-use lib.IntN.{ℤ, sucℤ, pos, _-ℤ_}
-use lib.Signed.{leZ, ltZ, _≤ℤ_, _<ℤ_}
+use lib.IntN.{ℤ, pos, _-ℤ_}
+use lib.Signed.{leZ, ltZ, _≤ℤ_}
 use borrow.Author.Tests.{eq-eqb, eqb-true}
 use Rattle.rules.specs.Account.{Done, same, isSent, times, isLeft, leftOn, sentOn, withdrawnOn, Accepted, Lawful, Genuine}
 use Rattle.rules.specs.Areas.{packet, Grant, nobody, bestEffort, onTime, early}
 use Rattle.rules.specs.Indices.{count, counted}
-use Rattle.rules.specs.Whole.{Packet, Held, Router, Arrival, absent, refused, accepted, waiting, grant, isDue, due, withdrawn, meets, arrivals, ticked, Report, packetBytes, grantBytes}
+use Rattle.rules.specs.Whole.{Packet, Held, Router, withPlaces, Arrival, absent, refused, accepted, waiting, grant, isDue, due, withdrawn, meets, ticked, Report, packetBytes, grantBytes}
 use Rattle.rules.proofs.Booleans.{none-some, and-left, and-right, is-true, true-is, false-is}
 use Rattle.rules.proofs.IndexLaws.{count-none, count-only, count-some}
-use Rattle.rules.proofs.Integers.{antisym, leZ-refl, leZ-trans, suc-le, suc-lt, irreflexive, lt-of, before-horizon, swap-horizon}
-use Rattle.rules.proofs.WholeLaws.{AllHeld, admitted-all, emptied-held}
+use Rattle.rules.proofs.Integers.{orders, diff-nat, antisym, later-differs}
+use Rattle.rules.proofs.WholeLaws.{AllHeld, emptied-held}
 use Rattle.rules.proofs.Grants.{Rests, grant-rests, waiting-held}
-use Rattle.rules.proofs.Good.{Good, after, accepted-made, serving, chosen, clock-at, served-all, served-fit, served-frame, ended-frame}
+use Rattle.rules.proofs.Good.{Good, after, after-all, accepted-made, serving, clock-at, served-all, served-fit, served-frame}
 use Rattle.rules.proofs.Accounting.{taken, for-port, tick-left}
-use Rattle.rules.proofs.Runs.{next, Ticking, Run, rest, quiet, ticks}
+use Rattle.rules.proofs.Runs.{next, Ticking, Run, rest, quiet, ticks, moment, over, after-tick, same-tick}
 
 -- ---- packets that are the same
 
 -- The same packet has the same tick and port of arrival.
-pub same-keys : (x y : Packet) → same x y ≡ true → (x .arrived ≡ y .arrived) × (x .input ≡ y .input)
+same-keys : (x y : Packet) → same x y ≡ true → (x .arrived ≡ y .arrived) × (x .input ≡ y .input)
 unfolding same
 same-keys x y e =
     let a = leZ (x .arrived) (y .arrived) in
@@ -38,7 +38,7 @@ same-keys x y e =
 -- A packet is the same as itself.
 pub same-self : (x : Packet) → same x x ≡ true
 unfolding same
-same-self x = rw (true-is (leZ (x .arrived) (x .arrived)) (leZ-refl (x .arrived)), eq-eqb (x .input) (x .input) refl)
+same-self x = rw (true-is (leZ (x .arrived) (x .arrived)) (omega (arith, orders)), eq-eqb (x .input) (x .input) refl)
 
 -- What differs in tick or port is not the same.
 differs : (x y : Packet) → (x .arrived ≡ y .arrived → x .input ≡ y .input → ⊥) → same x y ≡ false
@@ -83,7 +83,7 @@ module _ (c : ℕ) where
   -- ---- one tick
 
   -- x was accepted by the tick d.
-  abbrev pub Taken : Done → Packet → Type 0
+  abbrev Taken : Done → Packet → Type 0
   Taken d x = (q : ℕ) × (q < 5) × (d .report .arrival q ≡ accepted x) × (x .arrived ≡ d .met .clock) × (x .input ≡ q)
 
   -- Sent in its window and under its header.
@@ -97,23 +97,22 @@ module _ (c : ℕ) where
     abbrev then : ℕ → Router
     then = serving c (d .met) (d .call)
 
+    -- The router while port p is served, with the settings met.
+    abbrev pub router-at : ℕ → Router
+    router-at p = withPlaces r (then p .place) (then p .free)
+
     -- What the report says of a port.
     pub arrival-is : (q : ℕ) → d .report .arrival q ≡ meets c (d .call) (after c r (d .call) q) q
     unfolding ticked
     arrival-is q = ap (λ (k : Report). k .arrival q) (t .report)
 
-    pub grant-is : (p : ℕ) → d .report .grant p ≡ chosen c r (d .call) p
+    pub grant-is : (p : ℕ) → d .report .grant p ≡ grant (router-at p) (d .call .bestEffort) p
     unfolding ticked
-    grant-is p = ap (λ (k : Report). k .grant p) (t .report)
+    grant-is p = ap (λ (k : Report). k .grant p) (t .report) ∙ ap (λ (v : Router). grant v (d .call .bestEffort) p) (served-frame c r (d .call) p)
 
     withdrawn-is : (p : ℕ) → d .report .withdrawn p ≡ withdrawn (then 5 .clock) (then 5 .place) p 256
     unfolding ticked
     withdrawn-is p = ap (λ (k : Report). k .withdrawn p) (t .report)
-
-    -- A tick moves the clock by one.
-    pub tick-clock : next c d .clock ≡ sucℤ (r .clock)
-    unfolding ticked
-    tick-clock = ap (λ s. sucℤ (s .clock)) (ended-frame c r (d .call))
 
     -- An accepted packet bears the clock and the port of its tick.
     dated : (q : ℕ) (y : Packet) → d .report .arrival q ≡ accepted y → (y .arrived ≡ r .clock) × (y .input ≡ q)
@@ -158,32 +157,28 @@ module _ (c : ℕ) where
         let f = served-fit c r (d .call) (t .good) (t .input) q hq i l h ev in
         (subst (λ (y : Packet). T (leZ (y .arrived) (r .clock))) ex (f .fit .arrived), subst (λ (y : Packet). T (leZ (r .clock) (y .deadline))) ex (f .fit .due))
 
-    -- A granted packet rests at its place.
-    pub rests : (p : ℕ) (g : Grant (ℕ × Packet)) → d .report .grant p ≡ g → Rests (then p) p g
-    rests p g e = subst (Rests (then p) p) (sym (grant-is p) ∙ e) (grant-rests (then p) (d .call .bestEffort) p)
+    -- A granted packet rests at its place, by the clock and horizon met.
+    rests : (p : ℕ) (g : Grant (ℕ × Packet)) → d .report .grant p ≡ g → Rests (router-at p) p g
+    rests p g e = subst (Rests (router-at p) p) (sym (grant-is p) ∙ e) (grant-rests (router-at p) (d .call .bestEffort) p)
 
     module _ (p : ℕ) (hp : p < 5) (i : ℕ) (x : Packet) where
-      on-time-is : d .report .grant p ≡ onTime (i, x) → T (leZ (x .time) (r .clock))
-      on-time-is e = let (l, v, b) = rests p (onTime (i, x)) e in is-true (leZ (x .time) (r .clock)) (subst (λ (z : ℤ). leZ (x .time) z ≡ true) (clock-at c r (d .call) p) b)
-
-      early-is : d .report .grant p ≡ early (i, x) → T (ltZ (r .clock) (x .time))
-      early-is e = let (l, v, b, n) = rests p (early (i, x)) e in is-true (ltZ (r .clock) (x .time)) (subst (λ (z : ℤ). ltZ z (x .time) ≡ true) (clock-at c r (d .call) p) b)
-
+      -- Its time has come, so it is not after the clock and horizon.
       sent-on-time : d .report .grant p ≡ onTime (i, x) → Sent d p x
       unfolding grantBytes
       sent-on-time e =
-          let (l, v, b) = rests p (onTime (i, x)) e in
+          let (l, v, k) = rests p (onTime (i, x)) e in
           let (s, a) = fit-at p p (omega arith) i x l v in
-          (record { le = s }, record { le = before-horizon (x .time) (r .clock) (r .horizon p) (on-time-is e) }, record { le = a }, t .sends p hp ∙ ap (grantBytes c) e)
+          (record { le = s }, record { le = omega (arith, orders, diff-nat (x .time) (pos (r .horizon p))) }, record { le = a }, t .sends p hp ∙ ap (grantBytes c) e)
 
+      -- It is within the horizon.
       sent-early : d .report .grant p ≡ early (i, x) → Sent d p x
       unfolding grantBytes
       sent-early e =
-          let (l, v, b, n) = rests p (early (i, x)) e in
+          let (l, v, b, k) = rests p (early (i, x)) e in
           let (s, a) = fit-at p p (omega arith) i x l v in
-          let n′ = subst (λ (y : Router). leZ (x .time -ℤ y .clock) (pos (y .horizon p)) ≡ true) (served-frame c r (d .call) p) n in
-          (record { le = s }, record { le = swap-horizon (x .time) (r .clock) (r .horizon p) (is-true (leZ (x .time -ℤ r .clock) (pos (r .horizon p))) n′) }, record { le = a }, t .sends p hp ∙ ap (grantBytes c) e)
+          (record { le = s }, record { le = omega (arith, orders, diff-nat (x .time) (r .clock), diff-nat (x .time) (pos (r .horizon p))) }, record { le = a }, t .sends p hp ∙ ap (grantBytes c) e)
 
+    -- A withdrawn packet waits, and is due.
     withdrawn-at : (p : ℕ) (x : Packet) → List·Memᴰ x (d .report .withdrawn p) → (i : ℕ) × (i < 256) × (waiting (then 5 .place i) p ≡ some x) × (isDue (then 5 .clock) x ≡ true)
     withdrawn-at p x m = withdrawn-held (then 5 .clock) (then 5 .place) p 256 x (subst (List·Memᴰ x) (withdrawn-is p) m)
 
@@ -198,28 +193,20 @@ module _ (c : ℕ) where
 
     -- ---- where its packets come from
 
-    module _ (K : Packet → Type 0) (all : AllHeld (λ h. K (h .packet)) (r .place)) where
-      -- Known before the tick, or accepted in it.
-      abbrev pub Now : Packet → Type 0
-      Now x = K x ⊎ Taken d x
+    -- K is known of what is held before the tick, and of what it accepts.
+    module _ (K : Packet → Type 0) (new : (x : Packet) → Taken d x → K x) (all : AllHeld (λ h. K (h .packet)) (r .place)) where
+      -- Serving makes no packet.
+      served-known : (q : ℕ) → q ≤ 5 → AllHeld (λ h. K (h .packet)) (then q .place)
+      served-known = served-all c r (d .call) (λ h. K (h .packet)) (λ p l h k. k)
+          (after-all c r (d .call) (λ h. K (h .packet)) all 5 (λ q m x e. let k = arrival-is q ∙ e in new x (q, m, k, dated q x k .0, dated q x k .1)))
 
-      arrivals-known : (q : ℕ) → q ≤ 5 → AllHeld (λ h. Now (h .packet)) (after c r (d .call) q .place)
-      unfolding arrivals
-      arrivals-known zero l = λ i m h e. inl (all i m h e)
-      arrivals-known (suc q) l =
-          admitted-all (λ h. Now (h .packet)) (meets c (d .call) (after c r (d .call) q) q) (after c r (d .call) q)
-          (λ x e. let k = arrival-is q ∙ e in inr (q, omega arith, k, dated q x k .0, dated q x k .1)) (arrivals-known q (omega arith))
-
-      -- Serving makes no packet, and neither does emptying.
-      pub served-known : (q : ℕ) → q ≤ 5 → AllHeld (λ h. Now (h .packet)) (then q .place)
-      served-known = served-all c r (d .call) (λ h. Now (h .packet)) (λ p l h k. k) (arrivals-known 5 (omega arith))
-
-      ended-known : AllHeld (λ h. Now (h .packet)) (next c d .place)
+      -- Neither does emptying.
+      ended-known : AllHeld (λ h. K (h .packet)) (next c d .place)
       unfolding ticked
       ended-known i l h e = served-known 5 (omega arith) i l h (emptied-held (then 5 .clock) (then 5) i l h e .0)
 
-      waiting-known : (q : ℕ) → q ≤ 5 → (i p : ℕ) (x : Packet) → i < 256 → waiting (then q .place i) p ≡ some x → Now x
-      waiting-known q hq i p x l e = let (h, ev, ex, b) = waiting-held (then q .place i) p x e in subst Now ex (served-known q hq i l h ev)
+      waiting-known : (q : ℕ) → q ≤ 5 → (i p : ℕ) (x : Packet) → i < 256 → waiting (then q .place i) p ≡ some x → K x
+      waiting-known q hq i p x l e = let (h, ev, ex, b) = waiting-held (then q .place i) p x e in subst K ex (served-known q hq i l h ev)
 
   -- ---- the ticks of a run
 
@@ -228,18 +215,6 @@ module _ (c : ℕ) where
   run-good (rest G) = G
   run-good (quiet ec ep R) = run-good R
   run-good (ticks d t R) = run-good R
-
-  -- Each noted tick was one of a good router, at this clock or later.
-  pub ticking : {r w : Router} {h : List Done} {d : Done} → Run c r h w → List·Memᴰ d h → Ticking c d × T (leZ (r .clock) (d .met .clock))
-  ticking (rest G) m = absurd (List·Memᴰ·not-nil m)
-  ticking {d = d} (quiet ec ep R) m = let (t, l) = ticking R m in (t, subst (λ (z : ℤ). T (leZ z (d .met .clock))) ec l)
-  ticking {d = d} (ticks {h = h} f t R) m = go (List·Memᴰ·cases-cons m) (λ k. ticking R k)
-    where
-      go : (d ≡ f) ⊎ List·Memᴰ d h → (List·Memᴰ d h → Ticking c d × T (leZ (next c f .clock) (d .met .clock))) → Ticking c d × T (leZ (f .met .clock) (d .met .clock))
-      go (inl e) g = subst (λ (d : Done). Ticking c d × T (leZ (f .met .clock) (d .met .clock))) (sym e) (t, leZ-refl (f .met .clock))
-      go (inr k) g =
-          let (u, l) = g k in
-          (u, leZ-trans (f .met .clock) (sucℤ (f .met .clock)) (d .met .clock) (suc-le (f .met .clock)) (subst (λ (z : ℤ). T (leZ z (d .met .clock))) (tick-clock t) l))
 
   -- How often the ticks accepted x, counted where m holds.
   unfoldable pub acceptedOn : (Packet → Bool) → Packet → List Done → ℕ
@@ -253,106 +228,61 @@ module _ (c : ℕ) where
   conserve p hp x (quiet ec ep R) = let a = conserve p hp x R in let e = ap (leftOn p x) ep in omega arith
   conserve p hp x (ticks d t R) = let a = conserve p hp x R in let k = done-left t p hp x in omega arith
 
-  -- When x was accepted, of the ticks of a run.
-  when : {r w : Router} {h : List Done} (x : Packet) → Run c r h w → Accepted h x → T (leZ (r .clock) (x .arrived))
-  unfolding Accepted
-  when {r} x R (d, q, m, l, e, f, i) = let (t, k) = ticking R m in subst (λ (z : ℤ). T (leZ (r .clock) z)) (sym f) k
-
-  -- What is accepted after a tick was not accepted by it.
-  later-clock : {d : Done} → Ticking c d → (x : Packet) → T (leZ (next c d .clock) (x .arrived)) → x .arrived ≢ d .met .clock
-  later-clock {d} t x l e = irreflexive (x .arrived) (suc-lt (x .arrived) (x .arrived) (subst (λ (z : ℤ). T (leZ z (x .arrived))) (tick-clock t ∙ ap sucℤ (sym e)) l))
-
   module _ (m : Packet → Bool) (x : Packet) where
-    none-later : {r w : Router} {h : List Done} → Run c r h w → T (ltZ (x .arrived) (r .clock)) → acceptedOn m x h ≡ 0
+    -- By induction over the first list.
+    pub accepted-append : (a b : List Done) → acceptedOn m x (a ++ b) ≡ acceptedOn m x a + acceptedOn m x b
     unfolding acceptedOn
-    none-later (rest G) l = refl
-    none-later (quiet ec ep R) l = none-later R (subst (λ (z : ℤ). T (ltZ (x .arrived) z)) (sym ec) l)
-    none-later (ticks d t R) l =
-        let r = d .met in
-        let a = none-taken t m x (λ e. irreflexive (r .clock) (subst (λ (z : ℤ). T (ltZ z (r .clock))) e l)) in
-        let k = none-later R (subst (λ (z : ℤ). T (ltZ (x .arrived) z)) (sym (tick-clock t)) (lt-of (x .arrived) (r .clock) (sucℤ (r .clock)) l (suc-le (r .clock)))) in
+    accepted-append [] b = omega arith
+    accepted-append (d ∷ a) b = let k = accepted-append a b in omega arith
+
+    -- Ticks at other clocks accept no x.
+    none-accepted : (h : List Done) → ((d : Done) → List·Memᴰ d h → Ticking c d × (x .arrived ≢ d .met .clock)) → acceptedOn m x h ≡ 0
+    unfolding acceptedOn
+    none-accepted [] f = refl
+    none-accepted (d ∷ h) f =
+        let (t, n) = f d (List·Memᴰ·head refl) in
+        let a = none-taken t m x n in
+        let b = none-accepted h (λ e k. f e (List·Memᴰ·tail k)) in
         omega arith
 
-    -- Once, in its own tick.
+    -- An accepted packet is accepted once, in its own tick: every other has another clock.
     pub once : {r w : Router} {h : List Done} → Run c r h w → Accepted h x → acceptedOn m x h ≡ counted (m x)
     unfolding acceptedOn Accepted
-    once (rest G) (d, q, y, l, e, f, i) = absurd (List·Memᴰ·not-nil y)
-    once (quiet ec ep R) (d, q, y, l, e, f, i) = once R (d, q, y, l, e, f, i)
-    once (ticks {h = h} d₀ t R) (d, q, y, l, e, f, i) = go (List·Memᴰ·cases-cons y) (λ k. once R (d, q, k, l, e, f, i)) (λ k. when x R (d, q, k, l, e, f, i)) (none-later R)
-      where
-        go : (d ≡ d₀) ⊎ List·Memᴰ d h → (List·Memᴰ d h → acceptedOn m x h ≡ counted (m x)) → (List·Memᴰ d h → T (leZ (next c d₀ .clock) (x .arrived))) → (T (ltZ (x .arrived) (next c d₀ .clock)) → acceptedOn m x h ≡ 0)
-            → count 5 (λ q. taken m x (d₀ .report .arrival q)) + acceptedOn m x h ≡ counted (m x)
-        go (inl s) f g k =
-            let ex = sym (ap (λ (d : Done). d .report .arrival q) s) ∙ e in
-            let a = one-taken t m x q l ex in
-            let z = k (subst (λ (y : ℤ). T (ltZ (x .arrived) y)) (sym (tick-clock t)) (suc-lt (x .arrived) (sucℤ (d₀ .met .clock)) (subst (λ (y : ℤ). T (leZ (sucℤ y) (sucℤ (d₀ .met .clock)))) (sym (dated t q x ex .0)) (leZ-refl (sucℤ (d₀ .met .clock)))))) in
-            omega arith
-        go (inr n) f g k =
-            let a = none-taken t m x (later-clock t x (g n)) in
-            let z = f n in
-            omega arith
+    once R (d, q, k, l, e, f, i) =
+        let M = moment c R k in
+        let t = d .met .clock in
+        let a = none-accepted (M .before) (λ g n. (moment c (M .past) n .tick, λ z. later-differs (g .met .clock) t (over c (M .past) n) (sym z ∙ f))) in
+        let b = none-accepted (M .later) (λ g n. (moment c (M .future) n .tick, λ z. later-differs t (g .met .clock) (after-tick c d (M .future) n) (sym f ∙ z))) in
+        let o = one-taken (M .tick) m x q l e in
+        let s = ap (acceptedOn m x) (M .is) ∙ accepted-append (M .before) (d ∷ M .later) in
+        omega arith
 
   -- Two accepted packets that are the same are equal: they came in one tick, at one port.
   pub unique : {r w : Router} {h : List Done} → Run c r h w → (x y : Packet) → Accepted h x → Accepted h y → same x y ≡ true → x ≡ y
   unfolding Accepted
-  unique (rest G) x y (d, q, m, l, e, f, i) a s = absurd (List·Memᴰ·not-nil m)
-  unique (quiet ec ep R) x y a b s = unique R x y a b s
-  unique (ticks {h = h} d₀ t R) x y (d, q, m, l, e, f, i) (d′, q′, m′, l′, e′, f′, i′) s =
-      go (List·Memᴰ·cases-cons m) (List·Memᴰ·cases-cons m′) (λ n o. unique R x y (d, q, n, l, e, f, i) (d′, q′, o, l′, e′, f′, i′) s) (λ n. when x R (d, q, n, l, e, f, i)) (λ n. when y R (d′, q′, n, l′, e′, f′, i′))
-    where
-      now : (d : Done) (q : ℕ) (x : Packet) → d ≡ d₀ → d .report .arrival q ≡ accepted x → d₀ .report .arrival q ≡ accepted x
-      now d q x k e = sym (ap (λ (d : Done). d .report .arrival q) k) ∙ e
+  unique R x y (d, q, m, l, e, f, i) (d′, q′, m′, l′, e′, f′, i′) s =
+      let (a, b) = same-keys x y s in
+      let k : d ≡ d′ = same-tick c R m m′ (sym f ∙ a ∙ f′) in
+      let j : q ≡ q′ = sym i ∙ b ∙ i′ in
+      let z : accepted x ≡ accepted y = sym e ∙ ap₂ (λ (d : Done) (q : ℕ). d .report .arrival q) k j ∙ e′ in
+      cc
 
-      go : (d ≡ d₀) ⊎ List·Memᴰ d h → (d′ ≡ d₀) ⊎ List·Memᴰ d′ h → (List·Memᴰ d h → List·Memᴰ d′ h → x ≡ y) → (List·Memᴰ d h → T (leZ (next c d₀ .clock) (x .arrived))) → (List·Memᴰ d′ h → T (leZ (next c d₀ .clock) (y .arrived))) → x ≡ y
-      go (inl n) (inl o) g h′ k =
-          let j : q ≡ q′ = sym i ∙ same-keys x y s .1 ∙ i′ in
-          let z : accepted x ≡ accepted y = sym (now d q x n e) ∙ ap (d₀ .report .arrival) j ∙ now d′ q′ y o e′ in
-          cc
-      go (inl n) (inr o) g h′ k = absurd (later-clock t y (k o) (sym (same-keys x y s .0) ∙ dated t q x (now d q x n e) .0))
-      go (inr n) (inl o) g h′ k = absurd (later-clock t x (h′ n) (same-keys x y s .0 ∙ dated t q′ y (now d′ q′ y o e′) .0))
-      go (inr n) (inr o) g h′ k = g n o
-
-  -- ---- what a run does and holds was known before it or accepted in it
-
-  abbrev pub Known : (Packet → Type 0) → List Done → Packet → Type 0
-  Known K h x = K x ⊎ Accepted h x
-
-  module _ (d : Done) (h : List Done) (x : Packet) where
-    join : (K : Packet → Type 0) → Known (λ x. K x ⊎ Taken d x) h x → Known K (d ∷ h) x
-    unfolding Accepted
-    join K (inl (inl k)) = inl k
-    join K (inl (inr (q, l, a, f, i))) = inr (d, q, List·Memᴰ·head refl, l, a, f, i)
-    join K (inr (e, q, m, l, a, f, i)) = inr (e, q, List·Memᴰ·tail m, l, a, f, i)
-
-  known-all : (K : Packet → Type 0) (f g : ℕ → Option Held) → f ≡ g → AllHeld (λ h. K (h .packet)) g → AllHeld (λ h. K (h .packet)) f
-  known-all K f g e a = subst (AllHeld (λ h. K (h .packet))) (sym e) a
-
-  -- What the run holds is known.
-  pub held-known : {r w : Router} {h : List Done} (K : Packet → Type 0) → Run c r h w → AllHeld (λ y. K (y .packet)) (r .place) → AllHeld (λ y. Known K h (y .packet)) (w .place)
-  held-known K (rest G) a = λ i l y e. inl (a i l y e)
-  held-known K (quiet {r = r} {r′ = r′} ec ep R) a = held-known K R (known-all K (r′ .place) (r .place) ep a)
-  held-known K (ticks {h = h} d t R) a = λ i l y e. join d h (y .packet) K (held-known (λ x. K x ⊎ Taken d x) R (ended-known t K a) i l y e)
-
-  -- What its ticks have waiting, and so what they send or withdraw, is known.
-  pub sourced : {r w : Router} {h : List Done} (K : Packet → Type 0) (d : Done) → Run c r h w → AllHeld (λ y. K (y .packet)) (r .place) → List·Memᴰ d h
-      → (q : ℕ) → q ≤ 5 → (i p : ℕ) (x : Packet) → i < 256 → waiting (serving c (d .met) (d .call) q .place i) p ≡ some x → Known K h x
-  sourced K d (rest G) a m q hq i p x l e = absurd (List·Memᴰ·not-nil m)
-  sourced K d (quiet {r = r} {r′ = r′} ec ep R) a m q hq i p x l e = sourced K d R (known-all K (r′ .place) (r .place) ep a) m q hq i p x l e
-  sourced K d (ticks {h = h} d₀ t R) a m q hq i p x l e = join d₀ h x K (go (List·Memᴰ·cases-cons m) (λ k. sourced (λ x. K x ⊎ Taken d₀ x) d R (ended-known t K a) k q hq i p x l e))
-    where
-      go : (d ≡ d₀) ⊎ List·Memᴰ d h → (List·Memᴰ d h → Known (λ x. K x ⊎ Taken d₀ x) h x) → Known (λ x. K x ⊎ Taken d₀ x) h x
-      go (inl f) g = inl (waiting-known t K a q hq i p x l (subst (λ (d : Done). waiting (serving c (d .met) (d .call) q .place i) p ≡ some x) f e))
-      go (inr k) g = g k
+  -- What is known of what is held at first, and of what the ticks accept, is known of what is held at the end.
+  held-known : {r w : Router} {h : List Done} (K : Packet → Type 0) → Run c r h w → ((d : Done) → List·Memᴰ d h → (x : Packet) → Taken d x → K x) → AllHeld (λ y. K (y .packet)) (r .place) → AllHeld (λ y. K (y .packet)) (w .place)
+  held-known K (rest G) f a = a
+  held-known K (quiet ec ep R) f a = held-known K R f (subst (AllHeld (λ y. K (y .packet))) (sym ep) a)
+  held-known K (ticks d t R) f a = held-known K R (λ e m. f e (List·Memᴰ·tail m)) (ended-known t K (f d (List·Memᴰ·head refl)) a)
 
   -- ---- the accounts of a run from an empty router
 
   module _ {r w : Router} {h : List Done} (R : Run c r h w) (empty : (i : ℕ) → r .place i ≡ none) where
-    nobody-known : AllHeld (λ y. ⊥) (r .place)
-    nobody-known i l y e = none-some (sym (empty i) ∙ e)
+    now-accepted : (d : Done) → List·Memᴰ d h → (x : Packet) → Taken d x → Accepted h x
+    unfolding Accepted
+    now-accepted d m x (q, l, e, f, i) = (d, q, m, l, e, f, i)
 
-    accepted-only : (x : Packet) → Known (λ x. ⊥) h x → Accepted h x
-    accepted-only x (inl k) = absurd k
-    accepted-only x (inr a) = a
+    -- Nothing is held at first.
+    nothing-held : AllHeld (λ y. Accepted h (y .packet)) (r .place)
+    nothing-held i l y e = none-some (sym (empty i) ∙ e)
 
     -- Nothing is left on any port at first.
     pub left-nothing : (p : ℕ) (x : Packet) → leftOn p x (r .place) ≡ 0
@@ -361,11 +291,14 @@ module _ (c : ℕ) where
 
     -- What is held was accepted.
     pub held-accepted : (i : ℕ) → i < 256 → (x : Held) → w .place i ≡ some x → Accepted h (x .packet)
-    held-accepted i l x e = accepted-only (x .packet) (held-known (λ x. ⊥) R nobody-known i l x e)
+    held-accepted = held-known (Accepted h) R now-accepted nothing-held
 
     -- And so is what waits while a tick serves its ports.
     pub waiting-accepted : (d : Done) → List·Memᴰ d h → (q : ℕ) → q ≤ 5 → (i p : ℕ) (x : Packet) → i < 256 → waiting (serving c (d .met) (d .call) q .place i) p ≡ some x → Accepted h x
-    waiting-accepted d m q hq i p x l e = accepted-only x (sourced (λ x. ⊥) d R nobody-known m q hq i p x l e)
+    waiting-accepted d m =
+        let M = moment c R m in
+        let a = held-known (Accepted h) (M .past) (λ e n. now-accepted e (subst (List·Memᴰ e) (sym (M .is)) (Memᴰ·append-left (d ∷ M .later) n))) nothing-held in
+        waiting-known (M .tick) (Accepted h) (now-accepted d m) a
 
     -- What is left is x itself, and x fits the clock.
     pub in-time : (x : Packet) → Accepted h x → (p : ℕ) → 0 < leftOn p x (w .place) → w .clock ≤ℤ x .deadline
@@ -380,7 +313,7 @@ module _ (c : ℕ) where
     -- What is sent or withdrawn was accepted.
     pub genuine : (d : Done) → List·Memᴰ d h → (p : ℕ) → p < 5 → (x : Packet) → Genuine h d p x
     genuine d m p hp x =
-        let t = ticking R m .0 in
+        let t = moment c R m .tick in
         record {
           on-time = λ i e. let (l, v, b) = rests t p (onTime (i, x)) e in waiting-accepted d m p (omega arith) i p x l v;
           early = λ i e. let (l, v, b, n) = rests t p (early (i, x)) e in waiting-accepted d m p (omega arith) i p x l v;
@@ -392,15 +325,15 @@ module _ (c : ℕ) where
     unfolding isSent
     lawful x a p hp d m = record {
       sent = λ s. go (d .report .grant p) refl s;
-      on-time = λ i y e s. record { le = subst (λ (y : Packet). T (leZ (y .time) (d .met .clock))) (is-x y s (genuine d m p hp y .on-time i e)) (on-time-is t p hp i y e) };
-      early = λ i y e s. record { lt = subst (λ (y : Packet). T (ltZ (d .met .clock) (y .time))) (is-x y s (genuine d m p hp y .early i e)) (early-is t p hp i y e) };
+      on-time = λ i y e s. record { le = subst (λ (y : Packet). T (leZ (y .time) (d .met .clock))) (is-x y s (genuine d m p hp y .on-time i e)) (rests t p (onTime (i, y)) e .2) };
+      early = λ i y e s. record { lt = subst (λ (y : Packet). T (ltZ (d .met .clock) (y .time))) (is-x y s (genuine d m p hp y .early i e)) (rests t p (early (i, y)) e .2) };
       withdrawn = λ n.
           let (y, k, s) = times-some x (d .report .withdrawn p) n in
           withdrawn-due t p y k ∙ ap (λ (y : Packet). y .deadline) (is-x y s (genuine d m p hp y .withdrawn k));
     }
       where
         t : Ticking c d
-        t = ticking R m .0
+        t = moment c R m .tick
 
         is-x : (y : Packet) → same x y ≡ true → Accepted h y → y ≡ x
         is-x y s b = sym (unique R x y a b s)

@@ -1,42 +1,30 @@
 -- The rest of the accounts: each stored packet has its place to itself, no port idles and no arrival is refused without its reason. Assumes nothing.
 use Prim.Native.Nat.{ℕ, zero, suc, _+_, _<_, _≤_}
-use mathlib.Core.Path.{_≡_, refl, sym, ap, ap₂, subst, _∙_}
-use mathlib.Core.Bool.{Bool, true, false, cond, not, _&&_, true≢false}
-use mathlib.Core.List.{List, [], _∷_, _++_, List·Memᴰ, List·Memᴰ·head, List·Memᴰ·tail, List·Memᴰ·not-nil, List·Memᴰ·cases-cons, Memᴰ·append-left, Memᴰ·append-right}
-use mathlib.Core.Logic.{_⊎_, inl, inr}
-use mathlib.Core.Option.{Option, none, some}
+use mathlib.Core.Path.{_≡_, refl, sym, ap, subst, _∙_}
+use mathlib.Core.Bool.{Bool, true, false, cond, not, _&&_}
+use mathlib.Core.List.{List, [], _∷_, _++_, List·Memᴰ, List·Memᴰ·head, List·Memᴰ·tail, Memᴰ·append-left, Memᴰ·append-right}
+use mathlib.Core.Option.{none, some}
 use native.Mathlib.Decide.{ℕ-discrete}
 use native.Mathlib.Omega.{arith}
 use lib.ListN.{length}
-use lib.Dec.{T, eqb}
-use lib.IntN.{ℤ, sucℤ, pos, _+ℤ_, _-ℤ_}
-use lib.Signed.{leZ, ltZ, _≤ℤ_, _<ℤ_}
+use lib.Dec.{T, eqb, eqb→eq}
+use lib.IntN.{ℤ, sucℤ, pos, _+ℤ_}
+use lib.Signed.{leZ, ltZ, _≤ℤ_}
 use borrow.Author.Tests.{ne-eqb, eq-eqb}
 use Rattle.rules.specs.Account.{Done, same, isSent, times, isLeft, leftOn, sentOn, withdrawnOn, Accepted, Waits, NoneOnTime, Prompt, answerDue, stored, Stored, Accounts}
 use Rattle.rules.specs.Areas.{byte, packet, has, bestEffort, onTime, early}
 use Rattle.rules.specs.Indices.{count, counted}
 use Rattle.rules.specs.Whole.{Packet, Held, Router, TickCall, Arrival, waiting, meets, arrivals, ticked, Report, arrivalCode}
-use Rattle.rules.proofs.Booleans.{is-true}
+use Rattle.rules.proofs.Booleans.{is-true, same-test}
 use Rattle.rules.proofs.IndexLaws.{count-none, count-some, count-same, count-two, count-pos, counted-true, counted-false}
-use Rattle.rules.proofs.Integers.{leZ-refl, leZ-trans, not-le, lt-le, lt-of, suc-le, suc-lt, irreflexive}
+use Rattle.rules.proofs.Integers.{orders, suc-nat, not-le}
 use Rattle.rules.proofs.Masks.{some-port}
-use Rattle.rules.proofs.WholeLaws.{arrival-code, arrival-free}
-use Rattle.rules.proofs.Grants.{grant-on-time, grant-best-effort, grant-waits, grant-early, waiting-held}
-use Rattle.rules.proofs.Good.{after, arrivals-frame, accepted-made, serving, served-frame, chosen, clock-at}
-use Rattle.rules.proofs.Accounting.{taken, for-port, any, heldIn, holds, tick-in, arrivals-left, served-left}
-use Rattle.rules.proofs.Runs.{next, next-good, Ticking, Run, rest, quiet, ticks}
-use Rattle.rules.proofs.RunAccounts.{same-self, left-x, arrival-is, grant-is, tick-clock, fit-at, run-good, ticking, acceptedOn, conserve, once, unique, held-accepted, waiting-accepted, left-nothing, in-time, genuine, lawful}
-
--- ---- lists
-
-cons-first : {A : Type 0} {a b : A} {x y : List A} → a ∷ x ≡ b ∷ y → a ≡ b
-cons-first e = cc
-
-cons-rest : {A : Type 0} {a b : A} {x y : List A} → a ∷ x ≡ b ∷ y → x ≡ y
-cons-rest e = cc
-
-nil-cons : {A C : Type 0} {b : A} {y : List A} → [] ≡ b ∷ y → C
-nil-cons e = let z : _≡_ {A = ℕ} 0 1 = cc in absurd (omega arith)
+use Rattle.rules.proofs.WholeLaws.{tally, arrival-code, arrival-free}
+use Rattle.rules.proofs.Grants.{grant-on-time, grant-best-effort, grant-waits, grant-early}
+use Rattle.rules.proofs.Good.{after, arrivals-frame, chosen}
+use Rattle.rules.proofs.Accounting.{taken, for-port, any, holds, tick-in, arrivals-left, served-left}
+use Rattle.rules.proofs.Runs.{next, next-good, Ticking, Run, rest, quiet, ticks, split, moment, over}
+use Rattle.rules.proofs.RunAccounts.{same-self, left-x, router-at, arrival-is, grant-is, fit-at, run-good, acceptedOn, accepted-append, conserve, once, unique, held-accepted, waiting-accepted, left-nothing, in-time, genuine, lawful}
 
 -- ---- the free places of a tick
 
@@ -54,11 +42,7 @@ module _ (c : ℕ) where
   -- ---- questions 6 to 8 are exact
 
   full-same : (a b : ℕ) → (a ≡ 0 → b ≡ 256) → (b ≡ 256 → a ≡ 0) → eqb a 0 ≡ eqb b 256
-  full-same a b f g = go (ℕ-discrete a 0)
-    where
-      go : Dec (a ≡ 0) → eqb a 0 ≡ eqb b 256
-      go (yes e) = eq-eqb a 0 e ∙ sym (eq-eqb b 256 (f e))
-      go (no n) = ne-eqb a 0 n ∙ sym (ne-eqb b 256 (λ e. n (g e)))
+  full-same a b f g = same-test (eqb a 0) (eqb b 256) (λ t. is-true (eqb b 256) (eq-eqb b 256 (f (eqb→eq a 0 t)))) (λ t. is-true (eqb a 0) (eq-eqb a 0 (g (eqb→eq b 256 t))))
 
   -- By the settings, which the tick does not change, and the free places, which make 256 with the stored packets.
   answers-due : {d : Done} → Ticking c d → (p : ℕ) → arrivalCode (d .report .arrival p) ≡ answerDue d p
@@ -77,44 +61,15 @@ module _ (c : ℕ) where
       ∙ ap (λ (b : Bool). cond (not (has (call .arriving) p)) 0 (cond (eqb (w .entry (byte k 0) .mask) 0) 6 (cond (ltZ (call .times p +ℤ pos (w .entry (byte k 0) .delay)) (w .clock)) 7 (cond b 8 1))))
       (full-same (length (r .free)) (stored (w .place) + count p (λ q. eqb (arrivalCode (d .report .arrival q)) 1)) (omega arith) (omega arith))
 
-  -- ---- the clock of a run
+  -- ---- a run with one more tick
 
-  run-clock : {r w : Router} {h : List Done} → Run c r h w → T (leZ (r .clock) (w .clock))
-  run-clock (rest {r = r} G) = leZ-refl (r .clock)
-  run-clock {w = w} (quiet ec ep R) = subst (λ (z : ℤ). T (leZ z (w .clock))) ec (run-clock R)
-  run-clock {w = w} (ticks d t R) = leZ-trans (d .met .clock) (sucℤ (d .met .clock)) (w .clock) (suc-le (d .met .clock)) (subst (λ (z : ℤ). T (leZ z (w .clock))) (tick-clock c t) (run-clock R))
-
-  -- A tick of the run is over at its end.
-  over : {r w : Router} {h : List Done} {d : Done} → Run c r h w → List·Memᴰ d h → T (leZ (sucℤ (d .met .clock)) (w .clock))
-  over (rest G) m = absurd (List·Memᴰ·not-nil m)
-  over (quiet ec ep R) m = over R m
-  over {w = w} {d = d} (ticks {h = h} d₀ t R) m = go (List·Memᴰ·cases-cons m) (λ k. over R k) (run-clock R)
-    where
-      go : (d ≡ d₀) ⊎ List·Memᴰ d h → (List·Memᴰ d h → T (leZ (sucℤ (d .met .clock)) (w .clock))) → T (leZ (next c d₀ .clock) (w .clock)) → T (leZ (sucℤ (d .met .clock)) (w .clock))
-      go (inl e) f k = subst (λ (d : Done). T (leZ (sucℤ (d .met .clock)) (w .clock))) (sym e) (subst (λ (z : ℤ). T (leZ z (w .clock))) (tick-clock c t) k)
-      go (inr n) f k = f n
-
-  -- ---- a run up to a tick, and with it
-
-  split : {r w : Router} {h : List Done} → Run c r h w → (before later : List Done) (d : Done) → h ≡ before ++ (d ∷ later) → Ticking c d × Run c r before (d .met)
-  split (rest G) [] later d e = nil-cons e
-  split (rest G) (b ∷ bs) later d e = nil-cons e
-  split (quiet ec ep R) before later d e = let (t, S) = split R before later d e in (t, quiet ec ep S)
-  split (ticks d₀ t R) [] later d e = subst (λ (d : Done). Ticking c d × Run c (d₀ .met) [] (d .met)) (cons-first e) (t, rest (t .good))
-  split (ticks d₀ t R) (b ∷ bs) later d e =
-      let (u, S) = split R bs later d (cons-rest e) in
-      (u, subst (λ (f : Done). Run c (d₀ .met) (f ∷ bs) (d .met)) (cons-first e) (ticks d₀ t S))
-
+  -- By induction over the run.
   snoc : {r m : Router} {h : List Done} → Run c r h m → (d : Done) → Ticking c d → d .met ≡ m → Run c r (h ++ (d ∷ [])) (next c d)
   snoc (rest {r = r} G) d t e = subst (λ (r : Router). Run c r (d ∷ []) (next c d)) e (ticks d t (rest (next-good c t)))
   snoc (quiet ec ep R) d t e = quiet ec ep (snoc R d t e)
   snoc (ticks d₀ t₀ R) d t e = ticks d₀ t₀ (snoc R d t e)
 
-  accepted-snoc : (m : Packet → Bool) (x : Packet) (h : List Done) (d : Done) → acceptedOn c m x (h ++ (d ∷ [])) ≡ acceptedOn c m x h + count 5 (λ q. taken m x (d .report .arrival q))
-  unfolding acceptedOn
-  accepted-snoc m x [] d = omega arith
-  accepted-snoc m x (e ∷ h) d = let k = accepted-snoc m x h d in omega arith
-
+  -- By induction over the ticks.
   withdrawn-none : (p : ℕ) (x : Packet) (h : List Done) → ((d : Done) → List·Memᴰ d h → times x (d .report .withdrawn p) ≡ 0) → withdrawnOn p x h ≡ 0
   unfolding withdrawnOn
   withdrawn-none p x [] f = refl
@@ -122,10 +77,11 @@ module _ (c : ℕ) where
 
   -- ---- each stored packet has its place to itself
 
-  run-in : {r w : Router} {h : List Done} (x : Packet) → Run c r h w → heldIn x (w .place) ≤ heldIn x (r .place) + acceptedOn c any x h
+  -- By induction over the run: a tick adds only what it accepts.
+  run-in : {r w : Router} {h : List Done} (x : Packet) → Run c r h w → tally (holds x) (w .place) ≤ tally (holds x) (r .place) + acceptedOn c any x h
   unfolding acceptedOn ticked
   run-in x (rest G) = omega arith
-  run-in x (quiet ec ep R) = let a = run-in x R in let e = ap (heldIn x) ep in omega arith
+  run-in x (quiet ec ep R) = let a = run-in x R in let e = ap (tally (holds x)) ep in omega arith
   run-in x (ticks d t R) =
       let a = run-in x R in
       let k = tick-in c (d .met) (d .call) (t .good) (t .input) x in
@@ -133,12 +89,13 @@ module _ (c : ℕ) where
       omega arith
 
   module _ {r w : Router} {h : List Done} (R : Run c r h w) (empty : (i : ℕ) → r .place i ≡ none) where
-    held-nothing : (x : Packet) → heldIn x (r .place) ≡ 0
-    unfolding heldIn holds
+    held-nothing : (x : Packet) → tally (holds x) (r .place) ≡ 0
+    unfolding tally holds
     held-nothing x = count-none (λ i. holds x (r .place i)) 256 (λ i l. ap (holds x) (empty i))
 
+    -- Two places would count two, and x was accepted once.
     own : (i j : ℕ) → i < 256 → j < 256 → (x y : Held) → w .place i ≡ some x → w .place j ≡ some y → same (x .packet) (y .packet) ≡ true → i ≡ j
-    unfolding heldIn holds
+    unfolding tally holds
     own i j hi hj x y ex ey s = go (ℕ-discrete i j)
       where
         go : Dec (i ≡ j) → i ≡ j
@@ -162,8 +119,8 @@ module _ (c : ℕ) where
     -- ---- what waits for a port when a tick serves it
 
     module _ (before : List Done) (d : Done) (t : Ticking c d) (S : Run c r before (d .met)) (p : ℕ) (hp : p < 5) where
-      abbrev at : Router
-      at = serving c (d .met) (d .call) p
+      abbrev here : Router
+      here = router-at c t p
 
       abbrev upto : List Done
       upto = before ++ (d ∷ [])
@@ -171,16 +128,17 @@ module _ (c : ℕ) where
       R′ : Run c r upto (next c d)
       R′ = snoc S d t refl
 
-      here : List·Memᴰ d upto
-      here = Memᴰ·append-right before (List·Memᴰ·head refl)
+      last : List·Memᴰ d upto
+      last = Memᴰ·append-right before (List·Memᴰ·head refl)
 
       -- Sent, withdrawn and left by then are what was accepted.
-      balance : (x : Packet) → Accepted upto x → sentOn p x before + withdrawnOn p x before + leftOn p x (at .place) ≡ counted (has (x .mask) p)
+      balance : (x : Packet) → Accepted upto x → sentOn p x before + withdrawnOn p x before + leftOn p x (here .place) ≡ counted (has (x .mask) p)
+      unfolding acceptedOn
       balance x a =
           let v = conserve c p hp x S in
           let z = left-nothing c S empty p x in
           let o = once c (for-port p) x R′ a in
-          let s = accepted-snoc (for-port p) x before d in
+          let s = accepted-append c (for-port p) x before (d ∷ []) in
           let q = count-same (λ q. taken (for-port p) x (d .report .arrival q)) (λ q. taken (for-port p) x (meets c (d .call) (after c (d .met) (d .call) q) q)) 5 (λ q l. ap (taken (for-port p) x) (arrival-is c t q)) in
           let al = arrivals-left c (d .met) (d .call) (t .good) (t .input) p hp x 5 in
           let sl = served-left c (d .met) (d .call) (t .good) (t .input) p hp x p (omega arith) in
@@ -195,61 +153,59 @@ module _ (c : ℕ) where
           go e k zero q = refl
           go e k (suc n) q =
               let s : e .met .clock ≡ x .deadline = lawful c R′ empty x a p hp e (Memᴰ·append-left (d ∷ []) k) .withdrawn (omega arith) in
-              let o : T (leZ (sucℤ (x .deadline)) (d .met .clock)) = subst (λ (y : ℤ). T (leZ (sucℤ y) (d .met .clock))) s (over S k) in
-              absurd (irreflexive (x .deadline) (suc-lt (x .deadline) (x .deadline) (leZ-trans (sucℤ (x .deadline)) (d .met .clock) (x .deadline) o (alive .le))))
+              let o : T (leZ (sucℤ (x .deadline)) (d .met .clock)) = subst (λ (y : ℤ). T (leZ (sucℤ y) (d .met .clock))) s (over c S k) in
+              let l = alive .le in
+              absurd (omega (arith, orders, suc-nat (x .deadline)))
 
       -- What waits by the accounts waits at a place.
-      waits-at : (x : Packet) → Waits before d p x → (i : ℕ) × (i < 256) × (waiting (at .place i) p ≡ some x)
+      waits-at : (x : Packet) → Waits before d p x → (i : ℕ) × (i < 256) × (waiting (here .place i) p ≡ some x)
       unfolding leftOn
       waits-at x W =
           let b = balance x (W .accepted) in
           let u = W .unsent in
           let w′ = not-withdrawn x (W .accepted) (W .in-time) in
           let k : counted (has (x .mask) p) ≡ 1 = ap counted (W .port) ∙ counted-true in
-          let (i, l, e) = count-some (λ i. isLeft x (waiting (at .place i) p)) 256 (omega arith) in
-          let (y, ey, s) = left-x x (waiting (at .place i) p) e in
-          (i, l, ey ∙ ap some (sym (unique c R′ x y (W .accepted) (waiting-accepted c R′ empty d here p (omega arith) i p y l ey) s)))
+          let (i, l, e) = count-some (λ i. isLeft x (waiting (here .place i) p)) 256 (omega arith) in
+          let (y, ey, s) = left-x x (waiting (here .place i) p) e in
+          (i, l, ey ∙ ap some (sym (unique c R′ x y (W .accepted) (waiting-accepted c R′ empty d last p (omega arith) i p y l ey) s)))
 
       -- And the other way round.
-      at-waits : (i : ℕ) (x : Packet) → i < 256 → waiting (at .place i) p ≡ some x → Waits before d p x
+      at-waits : (i : ℕ) (x : Packet) → i < 256 → waiting (here .place i) p ≡ some x → Waits before d p x
       unfolding leftOn isLeft
       at-waits i x l e =
-          let a = waiting-accepted c R′ empty d here p (omega arith) i p x l e in
+          let a = waiting-accepted c R′ empty d last p (omega arith) i p x l e in
           let b = balance x a in
-          let k = count-pos (λ i. isLeft x (waiting (at .place i) p)) 256 i l (ap (isLeft x) e ∙ same-self x) in
-          record { accepted = a; port = port (has (x .mask) p) refl b k; unsent = unsent (has (x .mask) p) b k; in-time = record { le = fit-at c t p p (omega arith) i x l e .1 } }
+          let k = count-pos (λ i. isLeft x (waiting (here .place i) p)) 256 i l (ap (isLeft x) e ∙ same-self x) in
+          let (port, unsent) = once-left (has (x .mask) p) refl b k in
+          record { accepted = a; port = port; unsent = unsent; in-time = record { le = fit-at c t p p (omega arith) i x l e .1 } }
         where
-          port : (v : Bool) → has (x .mask) p ≡ v → sentOn p x before + withdrawnOn p x before + leftOn p x (at .place) ≡ counted v → 0 < leftOn p x (at .place) → has (x .mask) p ≡ true
-          port true q b k = q
-          port false q b k = let z = counted-false in absurd (omega arith)
+          once-left : (v : Bool) → has (x .mask) p ≡ v → sentOn p x before + withdrawnOn p x before + leftOn p x (here .place) ≡ counted v → 0 < leftOn p x (here .place) → (has (x .mask) p ≡ true) × (sentOn p x before ≡ 0)
+          once-left true q b k = let z = counted-true in (q, omega arith)
+          once-left false q b k = let z = counted-false in absurd (omega arith)
 
-          unsent : (v : Bool) → sentOn p x before + withdrawnOn p x before + leftOn p x (at .place) ≡ counted v → 0 < leftOn p x (at .place) → sentOn p x before ≡ 0
-          unsent true b k = let z = counted-true in omega arith
-          unsent false b k = let z = counted-false in absurd (omega arith)
+      -- What waits at a place waits by the accounts.
+      none-ready : NoneOnTime before d p → (i : ℕ) (x : Packet) → i < 256 → waiting (here .place i) p ≡ some x → T (ltZ (d .met .clock) (x .time))
+      none-ready N i x l e = N x (at-waits i x l e) .lt
 
-      same-clock : at .clock ≡ d .met .clock
-      same-clock = clock-at c (d .met) (d .call) p
-
-      none-ready : NoneOnTime before d p → (i : ℕ) (x : Packet) → i < 256 → waiting (at .place i) p ≡ some x → T (ltZ (at .clock) (x .time))
-      none-ready N i x l e = subst (λ (z : ℤ). T (ltZ z (x .time))) (sym same-clock) (N x (at-waits i x l e) .lt)
-
+      -- What waits is at a place, and the grant is the least there.
       on-time : (x : Packet) → Waits before d p x → x .time ≤ℤ d .met .clock → (i : ℕ) × (y : Packet) × (d .report .grant p ≡ onTime (i, y)) × (y .deadline ≤ℤ x .deadline)
       on-time x W ready =
           let (i, l, e) = waits-at x W in
-          let (j, y, g, le) = grant-on-time at (d .call .bestEffort) p i x l e (subst (λ (z : ℤ). T (leZ (x .time) z)) (sym same-clock) (ready .le)) in
+          let (j, y, g, le) = grant-on-time here (d .call .bestEffort) p i x l e (ready .le) in
           (j, y, grant-is c t p ∙ g, record { le = le })
 
       clash : {C : Type 0} {w : ℕ × Packet} → d .report .grant p ≡ bestEffort → d .report .grant p ≡ onTime w → C
       clash e q = let z : _≡_ {A = ℕ} 0 1 = cc in absurd (omega arith)
 
+      -- Best-effort is granted only where nothing is on time: else the grant would be on time.
       prompt : Prompt before d p
       prompt = record {
         on-time = on-time;
-        best-effort = λ e. (grant-best-effort at (d .call .bestEffort) p (sym (grant-is c t p) ∙ e), λ x W. record { lt = later x W e (leZ (x .time) (d .met .clock)) refl });
-        best-effort-if = λ b N. grant-is c t p ∙ grant-waits at (d .call .bestEffort) p (none-ready N) b;
+        best-effort = λ e. (grant-best-effort here (d .call .bestEffort) p (sym (grant-is c t p) ∙ e), λ x W. record { lt = later x W e (leZ (x .time) (d .met .clock)) refl });
+        best-effort-if = λ b N. grant-is c t p ∙ grant-waits here (d .call .bestEffort) p (none-ready N) b;
         early = λ b N x W near.
             let (i, l, e) = waits-at x W in
-            let (j, y, g, le) = grant-early at (d .call .bestEffort) p (none-ready N) b i x l e (subst (λ (v : Router). T (leZ (x .time -ℤ v .clock) (pos (v .horizon p)))) (sym (served-frame c (d .met) (d .call) p)) (near .le)) in
+            let (j, y, g, le) = grant-early here (d .call .bestEffort) p (none-ready N) b i x l e (near .le) in
             (j, y, grant-is c t p ∙ g, record { le = le });
       }
         where
@@ -267,8 +223,8 @@ module _ (c : ℕ) where
       };
       unique = unique c R;
       genuine = genuine c R empty;
-      prompt = λ before later d e p hp. let (t, S) = split R before later d e in prompt before d t S p hp;
-      arrivals = λ d m p hp. answers-due (ticking c R m .0) p;
+      prompt = λ before later d e p hp. let (t, S, U) = split c R before later d e in prompt before d t S p hp;
+      arrivals = λ d m p hp. answers-due (moment c R m .tick) p;
       stored = kept-stored;
       kept = run-good c R .kept;
     }

@@ -1,53 +1,40 @@
 -- Runs of good routers, the induction of every claim about a list of calls: calls that leave clock and places, and ticks. Assumes nothing.
 use Prim.Native.Nat.{ℕ, zero, suc, _+_, _*_, _<_, _≤_}
-use mathlib.Core.Path.{_≡_, refl, sym, subst, _∙_}
+use mathlib.Core.Path.{_≡_, sym, ap, subst, _∙_}
 use mathlib.Core.Bool.{Bool, true, false, cond, not, _&&_}
-use mathlib.Core.List.{List, [], _∷_}
+use mathlib.Core.Logic.{_⊎_, inl, inr}
+use mathlib.Core.List.{List, [], _∷_, _++_, List·Memᴰ, List·Memᴰ·head, List·Memᴰ·tail, List·Memᴰ·cases-cons, List·Memᴰ·append-cases}
 use native.Mathlib.Omega.{arith}
 use lib.ListN.{length, drop}
 use lib.Seq.{getD-take, getD-drop}
-use lib.Dec.{leb, eqb}
+use lib.Dec.{T, leb, eqb}
+use lib.IntN.{ℤ, sucℤ}
+use lib.Signed.{leZ}
 use borrow.Author.Tests.{eqb-true, leb-true, ltb-true}
 use Rattle.rules.specs.Account.{Done}
 use Rattle.rules.specs.Areas.{half, packet, has, fits, areasFull}
 use Rattle.rules.specs.Calls.{tick, refusal, Bytes, ByteCall, TrueTimes}
-use Rattle.rules.specs.Whole.{Router, TickCall, Entry, put, settings, ticked, grantBytes}
-use Rattle.rules.proofs.Booleans.{and-left}
-use Rattle.rules.proofs.Good.{Good, Settings, Input, tick-good}
+use Rattle.rules.specs.Whole.{Router, TickCall, put, settings, ticked, grantBytes}
+use Rattle.rules.proofs.Booleans.{asked, and-left, cons-first, cons-rest, nil-cons}
+use Rattle.rules.proofs.Integers.{orders, suc-nat, later-differs}
+use Rattle.rules.proofs.Good.{Good, EntryFits, Settings, Input, ended-frame, tick-good}
 
 -- ---- a control write keeps the router good
 
 -- What holds of both arms holds of the one taken.
-chosen : {A : Type 0} {x y : A} (t : Bool) (P : A → Type 0) → P x → P y → P (cond t x y)
-chosen true P hx hy = hx
-chosen false P hx hy = hy
+both-arms : {A : Type 0} {x y : A} (t : Bool) (P : A → Type 0) → P x → P y → P (cond t x y)
+both-arms true P hx hy = hx
+both-arms false P hx hy = hy
 
-put-entry : (P : Entry → Type 0) (f : ℕ → Entry) (v : ℕ) (x : Entry) → P x → ((i : ℕ) → i < 256 → P (f i)) → (i : ℕ) → i < 256 → P (put f v x i)
-unfolding put
-put-entry P f v x hx hf i l = chosen (eqb v i) P hx (hf i l)
-
+-- Register by register, only what it writes changes.
 settings-range : (c : ℕ) (w : Router) → Settings c w → (register v : ℕ) → register ≤ 5 → fits c register v ≡ true → Settings c (settings register v w)
 unfolding settings put fits
-settings-range c w S zero v l f = record { delay = S .delay; routes = S .routes; horizon = S .horizon; latch1 = S .latch1; latch2 = S .latch2; latch3 = S .latch3 }
-settings-range c w S (suc zero) v l f = record { delay = S .delay; routes = S .routes; horizon = S .horizon; latch1 = ltb-true v (half c) f; latch2 = S .latch2; latch3 = S .latch3 }
-settings-range c w S (suc (suc zero)) v l f = record { delay = S .delay; routes = S .routes; horizon = S .horizon; latch1 = S .latch1; latch2 = leb-true v 31 f; latch3 = S .latch3 }
-settings-range c w S (suc (suc (suc zero))) v l f = record {
-  delay = put-entry (λ e. e .delay < half c) (w .entry) v (record { identifier = w .latch 0; delay = w .latch 1; mask = w .latch 2 }) (S .latch1) (S .delay);
-  routes = put-entry (λ e. e .mask ≤ 31) (w .entry) v (record { identifier = w .latch 0; delay = w .latch 1; mask = w .latch 2 }) (S .latch2) (S .routes);
-  horizon = S .horizon;
-  latch1 = S .latch1;
-  latch2 = S .latch2;
-  latch3 = S .latch3;
-}
-settings-range c w S (suc (suc (suc (suc zero)))) v l f = record { delay = S .delay; routes = S .routes; horizon = S .horizon; latch1 = S .latch1; latch2 = S .latch2; latch3 = leb-true v 31 f }
-settings-range c w S (suc (suc (suc (suc (suc zero))))) v l f = record {
-  delay = S .delay;
-  routes = S .routes;
-  horizon = λ p m. chosen (has (w .latch 3) p) (λ n. n < half c) (ltb-true v (half c) f) (S .horizon p m);
-  latch1 = S .latch1;
-  latch2 = S .latch2;
-  latch3 = S .latch3;
-}
+settings-range c w S zero v l f = record { entry = S .entry; horizon = S .horizon; latch = record { delay = S .latch .delay; mask = S .latch .mask }; ports = S .ports }
+settings-range c w S (suc zero) v l f = record { entry = S .entry; horizon = S .horizon; latch = record { delay = ltb-true v (half c) f; mask = S .latch .mask }; ports = S .ports }
+settings-range c w S (suc (suc zero)) v l f = record { entry = S .entry; horizon = S .horizon; latch = record { delay = S .latch .delay; mask = leb-true v 31 f }; ports = S .ports }
+settings-range c w S (suc (suc (suc zero))) v l f = record { entry = λ i m. both-arms (eqb v i) (EntryFits c) (S .latch) (S .entry i m); horizon = S .horizon; latch = S .latch; ports = S .ports }
+settings-range c w S (suc (suc (suc (suc zero)))) v l f = record { entry = S .entry; horizon = S .horizon; latch = S .latch; ports = leb-true v 31 f }
+settings-range c w S (suc (suc (suc (suc (suc zero))))) v l f = record { entry = S .entry; horizon = λ p m. both-arms (has (w .latch 3) p) (λ n. n < half c) (ltb-true v (half c) f) (S .horizon p m); latch = S .latch; ports = S .ports }
 settings-range c w S (suc (suc (suc (suc (suc (suc n)))))) v l f = absurd (omega arith)
 
 -- A control write that fits its register keeps every setting in range.
@@ -57,10 +44,6 @@ settings-good c w G register v l f = record { settings = settings-range c w (G .
 
 -- ---- an accepted tick's input
 
-passed : (a b : Bool) → _≡_ {A = ℕ} (cond (not a) 1 (cond (not b) 3 0)) 0 → a ≡ true
-passed true b e = refl
-passed false b e = absurd (omega arith)
-
 -- An accepted tick has a whole arrivals area.
 pub whole-area : (c : ℕ) (k : TickCall) → refusal c (tick k) ≡ 0 → length (k .arrivals) ≡ 100
 unfolding refusal areasFull
@@ -68,10 +51,10 @@ whole-area c k e =
     let a = eqb (length (k .arrivals)) 100 in
     let b = eqb (length (k .outgoing)) 100 in
     let d = eqb (length (k .answers)) 20 in
-    eqb-true (length (k .arrivals)) 100 (and-left a b (and-left (a && b) d (passed (a && b && d) (leb (k .arriving) 31 && leb (k .bestEffort) 31) e)))
+    eqb-true (length (k .arrivals)) 100 (and-left a b (and-left (a && b) d (asked (a && b && d) 0 (cond (not (leb (k .arriving) 31 && leb (k .bestEffort) 31)) 3 0) e .0)))
 
 -- From what is asked of the calls.
-pub input-of : (c : ℕ) (w : Router) (k : TickCall) → ByteCall c (tick k) → TrueTimes c w (tick k) → refusal c (tick k) ≡ 0 → Input c w k
+pub input-of : (c : ℕ) (w : Router) (k : TickCall) → ByteCall c (tick k) → TrueTimes c w (tick k) → refusal c (tick k) ≡ 0 → Input c (w .clock) k
 unfolding ByteCall TrueTimes Bytes packet
 input-of c w k (ha, hb, bytes, ho, hn) true-times e =
     let whole = whole-area c k e in
@@ -93,7 +76,7 @@ module _ (c : ℕ) where
   -- d notes a tick of a good router, and the outgoing area holds what each port was granted.
   pub record Ticking (d : Done) : Type 0 where
     pub good : Good c (d .met)
-    pub input : Input c (d .met) (d .call)
+    pub input : Input c (d .met .clock) (d .call)
     pub report : d .report ≡ ticked c (d .met) (d .call) .report
     pub sends : (p : ℕ) → p < 5 → packet (d .outgoing) p ≡ grantBytes c (d .report .grant p)
 
@@ -102,7 +85,76 @@ module _ (c : ℕ) where
   unfolding ticked
   next-good {d} t = tick-good c (d .met) (d .call) (t .good) (t .input)
 
+  -- A run of ticks h from the router r to w; a quiet call leaves clock and places.
   pub data Run : Router → List Done → Router → Type 0 where
     rest : {r : Router} → Good c r → Run r [] r
     quiet : {r r′ w : Router} {h : List Done} → r′ .clock ≡ r .clock → r′ .place ≡ r .place → Run r′ h w → Run r h w
     ticks : {w : Router} {h : List Done} (d : Done) → Ticking d → Run (next d) h w → Run (d .met) (d ∷ h) w
+
+  -- ---- the clock of a run, and the run at each of its ticks
+
+  -- A tick moves the clock by one.
+  pub tick-clock : (d : Done) → next d .clock ≡ sucℤ (d .met .clock)
+  unfolding ticked
+  tick-clock d = ap (λ s. sucℤ (s .clock)) (ended-frame c (d .met) (d .call))
+
+  -- By induction over the run.
+  run-clock : {r w : Router} {h : List Done} → Run r h w → T (leZ (r .clock) (w .clock))
+  run-clock (rest {r = r} G) = omega (arith, orders)
+  run-clock {w = w} (quiet ec ep R) = subst (λ (z : ℤ). T (leZ z (w .clock))) ec (run-clock R)
+  run-clock {w = w} (ticks d t R) = let k = subst (λ (z : ℤ). T (leZ z (w .clock))) (tick-clock d) (run-clock R) in omega (arith, orders, suc-nat (d .met .clock))
+
+  -- A run up to a tick, and after it.
+  pub split : {r w : Router} {h : List Done} → Run r h w → (before later : List Done) (d : Done) → h ≡ before ++ (d ∷ later) → Ticking d × Run r before (d .met) × Run (next d) later w
+  split (rest G) [] later d e = nil-cons e
+  split (rest G) (b ∷ bs) later d e = nil-cons e
+  split (quiet ec ep R) before later d e = let (t, S, U) = split R before later d e in (t, quiet ec ep S, U)
+  split {w = w} (ticks d₀ t R) [] later d e =
+      subst (λ (d : Done). Ticking d × Run (d₀ .met) [] (d .met) × Run (next d) later w) (cons-first e) (t, rest (t .good), subst (λ (l : List Done). Run (next d₀) l w) (cons-rest e) R)
+  split (ticks d₀ t R) (b ∷ bs) later d e =
+      let (u, S, U) = split R bs later d (cons-rest e) in
+      (u, subst (λ (f : Done). Run (d₀ .met) (f ∷ bs) (d .met)) (cons-first e) (ticks d₀ t S), U)
+
+  -- By induction over the list.
+  mem-split : {d : Done} {h : List Done} → List·Memᴰ d h → (before : List Done) × (later : List Done) × (h ≡ before ++ (d ∷ later))
+  mem-split (List·Memᴰ·head {xs = xs} e) = ([], xs, ap (λ (d : Done). d ∷ xs) (sym e))
+  mem-split (List·Memᴰ·tail {x = x} m) = let (b, l, e) = mem-split m in (x ∷ b, l, ap (λ (h : List Done). x ∷ h) e)
+
+  -- The ticks before d are over at d, and those after it come later.
+  pub record Moment (r : Router) (h : List Done) (w : Router) (d : Done) : Type 0 where
+    pub before : List Done
+    pub later : List Done
+    pub is : h ≡ before ++ (d ∷ later)
+    pub tick : Ticking d
+    pub past : Run r before (d .met)
+    pub future : Run (next d) later w
+
+  -- Each tick of a run has its moment.
+  pub moment : {r w : Router} {h : List Done} {d : Done} → Run r h w → List·Memᴰ d h → Moment r h w d
+  moment {d = d} R m =
+      let (b, l, e) = mem-split m in
+      let (t, S, U) = split R b l d e in
+      record { before = b; later = l; is = e; tick = t; past = S; future = U }
+
+  -- A tick of a run is over at its end.
+  pub over : {r w : Router} {h : List Done} {d : Done} → Run r h w → List·Memᴰ d h → T (leZ (sucℤ (d .met .clock)) (w .clock))
+  over {w = w} {d = d} R m = subst (λ (z : ℤ). T (leZ z (w .clock))) (tick-clock d) (run-clock (moment R m .future))
+
+  -- A tick of the run after d comes later than d.
+  pub after-tick : (d : Done) {e : Done} {w : Router} {h : List Done} → Run (next d) h w → List·Memᴰ e h → T (leZ (sucℤ (d .met .clock)) (e .met .clock))
+  after-tick d {e} R m = subst (λ (z : ℤ). T (leZ z (e .met .clock))) (tick-clock d) (run-clock (moment R m .past))
+
+  -- No two ticks of a run have one clock.
+  pub same-tick : {r w : Router} {h : List Done} {d e : Done} → Run r h w → List·Memᴰ d h → List·Memᴰ e h → d .met .clock ≡ e .met .clock → d ≡ e
+  same-tick {r} {w} {h} {d} {e} R m n q = find (List·Memᴰ·append-cases (M .before) (subst (List·Memᴰ e) (M .is) n))
+    where
+      M : Moment r h w d
+      M = moment R m
+
+      here : (e ≡ d) ⊎ List·Memᴰ e (M .later) → d ≡ e
+      here (inl k) = sym k
+      here (inr k) = absurd (later-differs (d .met .clock) (e .met .clock) (after-tick d (M .future) k) q)
+
+      find : List·Memᴰ e (M .before) ⊎ List·Memᴰ e (d ∷ M .later) → d ≡ e
+      find (inl k) = absurd (later-differs (e .met .clock) (d .met .clock) (over (M .past) k) (sym q))
+      find (inr k) = here (List·Memᴰ·cases-cons k)

@@ -1,17 +1,18 @@
--- States of a lawful board: what a step leaves, and the idle stack. Assumes nothing.
+-- States of a lawful board by what their fields read: what a store leaves, and the idle stack. Assumes nothing.
 use Prim.Native.Nat.{ℕ, zero, suc, _<_, _≤_}
 use mathlib.Core.Path.{_≡_, refl, sym, ap, ap₂, _∙_}
-use mathlib.Core.Bool.{Bool, true, false, cond, _&&_, true≢false}
-use mathlib.Core.Logic.{_≢_}
+use mathlib.Core.Bool.{Bool, true, false, cond, _&&_, true≢false, and-false}
 use mathlib.Core.List.{List, _∷_}
+use native.Mathlib.Decide.{ℕ-discrete}
 use native.Mathlib.Omega.{arith}
 use lib.ListN.{length}
-use lib.Dec.{eqb}
-use borrow.Author.Tests.{eq-eqb, ne-eqb}
+use lib.Dec.{ltb, eqb}
+use borrow.Author.Tests.{eq-eqb, ne-eqb, lt-ltb, le-ltb}
 use Rattle.rules.specs.Board.{Board, Field, free, idle}
 use Rattle.rules.specs.Indices.{topFirst}
 use Rattle.rules.specs.Questions.{stack}
-use Rattle.rules.proofs.BoardLaws.{Laws, kind, index, same, Valid}
+use Rattle.rules.proofs.BoardLaws.{Laws, kind, index, alike, same, Valid}
+use Rattle.rules.proofs.Integers.{ltb-iff}
 
 -- Equal entries make equal stacks.
 pub topFirst-same : (f g : ℕ → ℕ) (n : ℕ) → ((i : ℕ) → i < n → f i ≡ g i) → topFirst f n ≡ topFirst g n
@@ -20,64 +21,97 @@ topFirst-same f g zero h = refl
 topFirst-same f g (suc n) h = ap₂ (λ (x : ℕ) (l : List ℕ). x ∷ l) (h n (omega arith)) (topFirst-same f g n (λ i l. h i (omega arith)))
 
 -- A stack of n has n entries.
-pub length-topFirst : (f : ℕ → ℕ) (n : ℕ) → length (topFirst f n) ≡ n
+length-topFirst : (f : ℕ → ℕ) (n : ℕ) → length (topFirst f n) ≡ n
 unfolding topFirst
 length-topFirst f zero = refl
 length-topFirst f (suc n) = ap suc (length-topFirst f n)
 
+-- No kind of field is left out.
+abbrev pub none-out : ℕ → Bool
+none-out k = false
+
 module _ (B : Board) (L : Laws B) where
   open Board B using (stateLength, get, put)
 
-  -- Only fields of the kinds t differ.
-  pub record Only (t : ℕ → Bool) (s s′ : List ℕ) : Type 0 where
-    pub sized : length s′ ≡ length s
-    pub same : (f : Field) → t (kind f) ≡ false → Valid f → get s′ f ≡ get s f
+  -- ---- what the fields of a state read
 
-  -- Nothing differs.
-  pub only-refl : (t : ℕ → Bool) (s : List ℕ) → Only t s s
-  only-refl t s = record { sized = refl; same = λ f e v. refl }
+  -- The state has its length, and its fields read as σ says, but for those of the kinds t.
+  pub record Reads (t : ℕ → Bool) (s : List ℕ) (σ : Field → ℕ) : Type 0 where
+    pub sized : length s ≡ stateLength
+    pub same : (f : Field) → t (kind f) ≡ false → Valid f → get s f ≡ σ f
 
-  -- Two steps.
-  pub only-trans : (t : ℕ → Bool) (s s′ s″ : List ℕ) → Only t s s′ → Only t s′ s″ → Only t s s″
-  only-trans t s s′ s″ a b = record { sized = b .sized ∙ a .sized; same = λ f e v. b .same f e v ∙ a .same f e v }
+  -- A state reads as itself.
+  pub reads-self : {t : ℕ → Bool} (s : List ℕ) → length s ≡ stateLength → Reads t s (get s)
+  reads-self s e = record { sized = e; same = λ f q v. refl }
 
-  -- More kinds may differ.
-  pub only-more : (t t′ : ℕ → Bool) (s s′ : List ℕ) → ((k : ℕ) → t′ k ≡ false → t k ≡ false) → Only t s s′ → Only t′ s s′
-  only-more t t′ s s′ h a = record { sized = a .sized; same = λ f e v. a .same f (h (kind f) e) v }
+  -- Readings that agree.
+  pub reads-as : {t : ℕ → Bool} {s : List ℕ} {σ τ : Field → ℕ} → Reads t s σ → ((f : Field) → t (kind f) ≡ false → Valid f → σ f ≡ τ f) → Reads t s τ
+  reads-as R h = record { sized = R .sized; same = λ f e v. R .same f e v ∙ h f e v }
 
-  module _ (s : List ℕ) (sized : length s ≡ stateLength) (g : Field) (v : ℕ) (valid : Valid g) where
-    -- A field stored is read back.
-    pub put-same : get (put s g v) g ≡ v
-    put-same = L .get-put s g v g sized valid valid ∙ go (eqb (kind g) (kind g)) (eqb (index g) (index g)) (eq-eqb (kind g) (kind g) refl) (eq-eqb (index g) (index g) refl)
+  -- What reads as the state s reads as s does.
+  pub reads-through : {t : ℕ → Bool} {s s′ : List ℕ} {σ : Field → ℕ} → Reads t s′ (get s) → Reads t s σ → Reads t s′ σ
+  reads-through R S = reads-as R (S .same)
+
+  -- A whole reading leaves out what one likes.
+  pub reads-less : {t : ℕ → Bool} {s : List ℕ} {σ : Field → ℕ} → Reads none-out s σ → Reads t s σ
+  reads-less R = record { sized = R .sized; same = λ f e v. R .same f refl v }
+
+  -- A field stored: it reads as stored, and any other as before.
+  pub reads-put : {t : ℕ → Bool} {s : List ℕ} {σ : Field → ℕ} → Reads t s σ → (g : Field) (v : ℕ) → Valid g → Reads t (put s g v) (λ f. cond (same g f) v (σ f))
+  reads-put {s = s} R g v valid = record {
+    sized = L .length-put s g v ∙ R .sized;
+    same = λ f e w. L .get-put s g v f (R .sized) valid w ∙ ap (cond (same g f) v) (R .same f e w);
+  }
+
+  -- Changes in a kind that is left out do not show.
+  pub reads-apart : {t : ℕ → Bool} {s : List ℕ} {σ : Field → ℕ} (g : Field) (b : Field → Bool) (v : ℕ) → t (kind g) ≡ true → Reads t s (λ f. cond (alike g f && b f) v (σ f)) → Reads t s σ
+  reads-apart {t} {σ = σ} g b v h R = reads-as R (λ f e w. ap (λ (x : Bool). cond (x && b f) v (σ f)) (ne-eqb (kind g) (kind f) (λ q. true≢false (sym h ∙ ap t q ∙ e))))
+
+  -- Nor does a store.
+  pub reads-off : {t : ℕ → Bool} {s : List ℕ} {σ : Field → ℕ} → Reads t s σ → (g : Field) (v : ℕ) → Valid g → t (kind g) ≡ true → Reads t (put s g v) σ
+  reads-off R g v valid h = reads-apart g (λ f. eqb (index g) (index f)) v h (reads-put R g v valid)
+
+  -- ---- v stored in the fields g i with a test b i, one index after the other
+
+  module _ (g : ℕ → Field) (kinds : (i : ℕ) → kind (g i) ≡ kind (g 0)) (indices : (i : ℕ) → index (g i) ≡ i) (b : ℕ → Bool) (v : ℕ) (σ : Field → ℕ) where
+    -- The reading after the indices below n.
+    abbrev pub marked : ℕ → Field → ℕ
+    marked n f = cond (alike (g 0) f && (ltb (index f) n && b (index f))) v (σ f)
+
+    -- At first it is the one met.
+    pub marked-none : {t : ℕ → Bool} {s : List ℕ} → Reads t s σ → Reads t s (marked 0)
+    marked-none R = reads-as R (λ f e w. sym (rw (le-ltb (index f) 0 (omega arith), and-false (alike (g 0) f))))
+
+    -- One more index.
+    pub marked-next : {t : ℕ → Bool} {s : List ℕ} (n : ℕ) → Reads t s (marked n) → Valid (g n) → Reads t (cond (b n) (put s (g n) v) s) (marked (suc n))
+    marked-next {t} {s} n R valid = reads-as (stored (b n)) (λ f e w. rw (kinds n, indices n) (step f (ℕ-discrete (index f) n)))
       where
-        go : (a b : Bool) → a ≡ true → b ≡ true → cond (a && b) v (get s g) ≡ v
-        go true true p q = refl
-        go true false p q = absurd (true≢false (sym q))
-        go false b p q = absurd (true≢false (sym p))
+        stored : (d : Bool) → Reads t (cond d (put s (g n) v) s) (λ f. cond (d && same (g n) f) v (marked n f))
+        stored true = reads-put R (g n) v valid
+        stored false = R
 
-    -- A field of another kind, and one of the same kind at another index.
-    pub put-kind : (f : Field) → kind f ≢ kind g → Valid f → get (put s g v) f ≡ get s f
-    put-kind f n w = L .get-put s g v f sized valid w ∙ ap (λ (t : Bool). cond (t && eqb (index g) (index f)) v (get s f)) (ne-eqb (kind g) (kind f) (λ e. n (sym e)))
+        here : (a d : Bool) (x : ℕ) → cond (d && (a && true)) v (cond (a && false) v x) ≡ cond (a && d) v x
+        here true true x = refl
+        here true false x = refl
+        here false true x = refl
+        here false false x = refl
 
-    -- At another index nothing changes.
-    pub put-index : (f : Field) → index f ≢ index g → Valid f → get (put s g v) f ≡ get s f
-    put-index f n w = L .get-put s g v f sized valid w ∙ go (eqb (kind g) (kind f)) (eqb (index g) (index f)) (ne-eqb (index g) (index f) (λ e. n (sym e)))
-      where
-        go : (a b : Bool) → b ≡ false → cond (a && b) v (get s f) ≡ get s f
-        go true true q = absurd (true≢false q)
-        go true false q = refl
-        go false b q = refl
+        away : (a d : Bool) (x : ℕ) → cond (d && (a && false)) v x ≡ x
+        away true true x = refl
+        away false true x = refl
+        away a false x = refl
 
-    -- A store changes its own kind only.
-    pub only-put : (t : ℕ → Bool) → t (kind g) ≡ true → Only t s (put s g v)
-    only-put t h = record { sized = L .length-put s g v; same = λ f e w. put-kind f (λ q. true≢false (sym h ∙ ap t (sym q) ∙ e)) w }
+        step : (f : Field) → Dec (index f ≡ n) → cond (b n && (alike (g 0) f && eqb n (index f))) v (marked n f) ≡ marked (suc n) f
+        step f (yes e) = rw (e, eq-eqb n n refl, le-ltb n n (omega arith), lt-ltb n (suc n) (omega arith)) (here (alike (g 0) f) (b n) (σ f))
+        step f (no e) = rw (ne-eqb n (index f) (λ q. e (sym q)), ltb-iff (index f) (suc n) (index f) n (omega arith) (omega arith)) (away (alike (g 0) f) (b n) (marked n f))
+
+  -- ---- the idle stack
 
   -- The stack stays where the count and the entries do.
-  pub stack-only : (t : ℕ → Bool) (s s′ : List ℕ) → Only t s s′ → t 3 ≡ false → t 4 ≡ false → get s free ≤ 256 → stack B s′ ≡ stack B s
+  pub stack-same : (s s′ : List ℕ) → get s free ≤ 256 → get s′ free ≡ get s free → ((i : ℕ) → i < 256 → get s′ (idle i) ≡ get s (idle i)) → stack B s′ ≡ stack B s
   unfolding stack
-  stack-only t s s′ O h k l =
-      ap (topFirst (λ i. get s′ (idle i))) (O .same free h (omega arith))
-      ∙ topFirst-same (λ i. get s′ (idle i)) (λ i. get s (idle i)) (get s free) (λ i m. O .same (idle i) k (omega arith))
+  stack-same s s′ l e h =
+      ap (topFirst (λ i. get s′ (idle i))) e ∙ topFirst-same (λ i. get s′ (idle i)) (λ i. get s (idle i)) (get s free) (λ i m. h i (omega arith))
 
   -- The free count is the height of the stack.
   pub length-stack : (s : List ℕ) → length (stack B s) ≡ get s free

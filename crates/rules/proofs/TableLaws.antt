@@ -2,13 +2,14 @@
 use Prim.Native.Nat.{ℕ, zero, suc, _+_, _-_, _<_, _≤_}
 use mathlib.Core.Path.{_≡_, refl, sym, ap, ap₂, subst, _∙_}
 use mathlib.Core.Bool.{Bool, true, false, cond, _&&_, true≢false}
+use mathlib.Core.Logic.{_≢_}
 use mathlib.Core.List.{List, _++_}
-use native.Mathlib.Decide.{decLt}
+use native.Mathlib.Decide.{decLt, ℕ-discrete}
 use native.Mathlib.Omega.{arith}
 use lib.ListN.{length, take, drop, length-append}
 use lib.Seq.{length-sets, take-at, drop-append-add}
 use lib.Dec.{ltb, eqb}
-use borrow.Author.Tests.{eqb-true, ltb-true, eq-eqb}
+use borrow.Author.Tests.{eqb-true, ltb-true, eq-eqb, ne-eqb}
 use Rattle.rules.specs.Areas.{value, digits}
 use Rattle.rules.specs.Board.{byTable, Field, clock, horizon, latch, free, idle, time, deadline, mask, outgoing, delay, routes, getAt, putAt}
 use Rattle.rules.specs.Indices.{all}
@@ -50,68 +51,61 @@ unfoldable pub each : (Field → Bool) → Bool
 each t = all 11 (λ k. all (extent (field k 0)) (λ i. t (field k i)))
 
 -- A test of every field holds at each valid one.
-pub each-at : (t : Field → Bool) → each t ≡ true → (f : Field) → Valid f → t f ≡ true
+each-at : (t : Field → Bool) → each t ≡ true → (f : Field) → Valid f → t f ≡ true
 unfolding each
 each-at t e f v =
     let (e₀, l, q) = field-of f in
     ap t (sym e₀) ∙ all-at (λ i. t (field (kind f) i)) (extent (field (kind f) 0)) (index f) (all-at (λ k. all (extent (field k 0)) (λ i. t (field k i))) 11 (kind f) e l) (subst (λ (n : ℕ). index f < n) (sym q) v)
 
-module _ (table : Field → ℕ × ℕ) (size : ℕ) (ownerKind ownerIndex : ℕ → ℕ) where
-  -- f has a byte, its bytes are inside, and each is f's.
+-- Fields of one kind and index are one.
+same-is : (f g : Field) → same f g ≡ true → f ≡ g
+same-is f g e =
+    let a = eqb-true (kind f) (kind g) (and-left (eqb (kind f) (kind g)) (eqb (index f) (index g)) e) in
+    let b = eqb-true (index f) (index g) (and-right (eqb (kind f) (kind g)) (eqb (index f) (index g)) e) in
+    sym (field-of f .0) ∙ ap₂ field a b ∙ field-of g .0
+
+same-self : (f : Field) → same f f ≡ true
+same-self f = rw (eq-eqb (kind f) (kind f) refl, eq-eqb (index f) (index f) refl)
+
+-- ---- each byte has one owner
+
+module _ (table : Field → ℕ × ℕ) (size : ℕ) (owner : ℕ → Field) where
+  -- Byte b of the field f is inside the state, and f's.
+  abbrev owns : Field → ℕ → Bool
+  owns f b = ltb (table f .0 + b) size && same (owner (table f .0 + b)) f
+
+  -- f has a byte, and owns all of its bytes.
   unfoldable pub owned : Field → Bool
-  owned f = ltb 0 (table f .1) && all (table f .1) (λ b. ltb (table f .0 + b) size && (eqb (ownerKind (table f .0 + b)) (kind f) && eqb (ownerIndex (table f .0 + b)) (index f)))
+  owned f = ltb 0 (table f .1) && all (table f .1) (owns f)
 
   module _ (test : each owned ≡ true) where
     module _ (f : Field) (v : Valid f) where
+      -- From the test, as the next.
       nonempty : 0 < table f .1
       unfolding owned
-      nonempty = ltb-true 0 (table f .1) (and-left (ltb 0 (table f .1)) (all (table f .1) (λ b. ltb (table f .0 + b) size && (eqb (ownerKind (table f .0 + b)) (kind f) && eqb (ownerIndex (table f .0 + b)) (index f)))) (each-at owned test f v))
+      nonempty = ltb-true 0 (table f .1) (and-left (ltb 0 (table f .1)) (all (table f .1) (owns f)) (each-at owned test f v))
 
-      module _ (b : ℕ) (l : b < table f .1) where
-        byte-of : (ltb (table f .0 + b) size && (eqb (ownerKind (table f .0 + b)) (kind f) && eqb (ownerIndex (table f .0 + b)) (index f))) ≡ true
-        unfolding owned
-        byte-of = all-at (λ b. ltb (table f .0 + b) size && (eqb (ownerKind (table f .0 + b)) (kind f) && eqb (ownerIndex (table f .0 + b)) (index f))) (table f .1) b (and-right (ltb 0 (table f .1)) (all (table f .1) (λ b. ltb (table f .0 + b) size && (eqb (ownerKind (table f .0 + b)) (kind f) && eqb (ownerIndex (table f .0 + b)) (index f)))) (each-at owned test f v)) l
+      byte-of : (b : ℕ) → b < table f .1 → (table f .0 + b < size) × (owner (table f .0 + b) ≡ f)
+      unfolding owned
+      byte-of b l =
+          let e = all-at (owns f) (table f .1) b (and-right (ltb 0 (table f .1)) (all (table f .1) (owns f)) (each-at owned test f v)) l in
+          let o = table f .0 + b in
+          (ltb-true o size (and-left (ltb o size) (same (owner o) f) e), same-is (owner o) f (and-right (ltb o size) (same (owner o) f) e))
 
-        inside : table f .0 + b < size
-        inside = ltb-true (table f .0 + b) size (and-left (ltb (table f .0 + b) size) (eqb (ownerKind (table f .0 + b)) (kind f) && eqb (ownerIndex (table f .0 + b)) (index f)) byte-of)
+      -- The last byte is inside, so all are.
+      fits-in : table f .0 + table f .1 ≤ size
+      fits-in = go (table f .1) refl
+        where
+          go : (n : ℕ) → table f .1 ≡ n → table f .0 + n ≤ size
+          go zero e = let h = nonempty in absurd (omega arith)
+          go (suc n) e = let h = byte-of n (omega arith) .0 in omega arith
 
-        owners : (eqb (ownerKind (table f .0 + b)) (kind f) && eqb (ownerIndex (table f .0 + b)) (index f)) ≡ true
-        owners = and-right (ltb (table f .0 + b) size) (eqb (ownerKind (table f .0 + b)) (kind f) && eqb (ownerIndex (table f .0 + b)) (index f)) byte-of
-
-        owner-kind : ownerKind (table f .0 + b) ≡ kind f
-        owner-kind = eqb-true (ownerKind (table f .0 + b)) (kind f) (and-left (eqb (ownerKind (table f .0 + b)) (kind f)) (eqb (ownerIndex (table f .0 + b)) (index f)) owners)
-
-        owner-index : ownerIndex (table f .0 + b) ≡ index f
-        owner-index = eqb-true (ownerIndex (table f .0 + b)) (index f) (and-right (eqb (ownerKind (table f .0 + b)) (kind f)) (eqb (ownerIndex (table f .0 + b)) (index f)) owners)
-
-    -- The last byte is inside, so all are.
-    fits-in : (f : Field) → Valid f → table f .0 + table f .1 ≤ size
-    fits-in f v = go (table f .1) refl
-      where
-        go : (n : ℕ) → table f .1 ≡ n → table f .0 + n ≤ size
-        go zero e = let h = nonempty f v in absurd (omega arith)
-        go (suc n) e = let h = inside f v n (omega arith) in omega arith
-
-    same-is : (f g : Field) → same f g ≡ true → f ≡ g
-    same-is f g e =
-        let a = eqb-true (kind f) (kind g) (and-left (eqb (kind f) (kind g)) (eqb (index f) (index g)) e) in
-        let b = eqb-true (index f) (index g) (and-right (eqb (kind f) (kind g)) (eqb (index f) (index g)) e) in
-        sym (field-of f .0) ∙ ap₂ field a b ∙ field-of g .0
-
-    -- A byte of two fields makes them the same.
-    meet : (f g : Field) → Valid f → Valid g → (k l : ℕ) → k < table f .1 → l < table g .1 → table g .0 + l ≡ table f .0 + k → same f g ≡ true
-    meet f g vf vg k l hk hl e =
-        let a : kind f ≡ kind g = sym (owner-kind f vf k hk) ∙ ap ownerKind (sym e) ∙ owner-kind g vg l hl in
-        let b : index f ≡ index g = sym (owner-index f vf k hk) ∙ ap ownerIndex (sym e) ∙ owner-index g vg l hl in
-        ap₂ (λ (x y : Bool). x && y) (eq-eqb (kind f) (kind g) a) (eq-eqb (index f) (index g) b)
-
-    -- A store keeps the length.
-    pub length-putAt : (s : List ℕ) (f : Field) (v : ℕ) → length (putAt table s f v) ≡ length s
-    unfolding putAt
-    length-putAt s f v = length-sets s (table f .0) (digits (table f .1) v)
+    -- Two fields with a common byte are one.
+    meet : (f g : Field) → Valid f → Valid g → (k l : ℕ) → k < table f .1 → l < table g .1 → table g .0 + l ≡ table f .0 + k → f ≡ g
+    meet f g vf vg k l hk hl e = sym (byte-of f vf k hk .1) ∙ ap owner (sym e) ∙ byte-of g vg l hl .1
 
     -- The same field is read back, and another shares no byte.
-    pub getAt-putAt : (s : List ℕ) (f : Field) (v : ℕ) (g : Field) → length s ≡ size → Valid f → Valid g → getAt table (putAt table s f v) g ≡ cond (same f g) v (getAt table s g)
+    getAt-putAt : (s : List ℕ) (f : Field) (v : ℕ) (g : Field) → length s ≡ size → Valid f → Valid g → getAt table (putAt table s f v) g ≡ cond (same f g) v (getAt table s g)
     unfolding putAt getAt
     getAt-putAt s f v g z vf vg = go (same f g) refl
       where
@@ -120,22 +114,11 @@ module _ (table : Field → ℕ × ℕ) (size : ℕ) (ownerKind ownerIndex : ℕ
 
         go : (t : Bool) → same f g ≡ t → getAt table (putAt table s f v) g ≡ cond t v (getAt table s g)
         go true e = subst (λ (g : Field). getAt table (putAt table s f v) g ≡ v) (same-is f g e) self
-        go false e = ap value (part-other s (digits (table f .1) v) (table f .0) (table g .0) (table g .1) (λ k l hk hl q. true≢false (sym (meet f g vf vg k l (let h = length-digits (table f .1) v in omega arith) hl q) ∙ e)))
+        go false e = ap value (part-other s (digits (table f .1) v) (table f .0) (table g .0) (table g .1) (λ k l hk hl q.
+            let m = meet f g vf vg k l (let h = length-digits (table f .1) v in omega arith) hl q in
+            true≢false (sym (subst (λ (g : Field). same f g ≡ true) m (same-self f)) ∙ e)))
 
 -- ---- the fresh state
-
-fresh-other : (t : ℕ) (f : Field) → same clock f ≡ false → freshField 0 f ≡ freshField t f
-fresh-other t clock e = absurd (true≢false e)
-fresh-other t (horizon p) e = refl
-fresh-other t (latch r) e = refl
-fresh-other t free e = refl
-fresh-other t (idle i) e = refl
-fresh-other t (time i) e = refl
-fresh-other t (deadline i) e = refl
-fresh-other t (mask i) e = refl
-fresh-other t (outgoing i) e = refl
-fresh-other t (delay i) e = refl
-fresh-other t (routes i) e = refl
 
 -- What stands after the first bytes does not depend on them.
 drop-past : (a b l : List ℕ) (n : ℕ) → length a ≡ length b → length a ≤ n → drop n (a ++ l) ≡ drop n (b ++ l)
@@ -149,9 +132,8 @@ drop-past a b l n e h =
 pub record Tested (c size : ℕ) (table : Field → ℕ × ℕ) (rest : List ℕ) : Type 0 where
   pub some-bytes : 0 < c
   pub few-bytes : c < 20
-  pub ownerKind : ℕ → ℕ
-  pub ownerIndex : ℕ → ℕ
-  pub owners : each (owned table size ownerKind ownerIndex) ≡ true
+  pub owner : ℕ → Field
+  pub owners : each (owned table size owner) ≡ true
   pub first : table clock .0 ≡ 0
   pub wide : table clock .1 ≡ c
   pub whole : c + length rest ≡ size
@@ -161,47 +143,49 @@ module _ (c size : ℕ) (table : Field → ℕ × ℕ) (rest : List ℕ) (H : Te
   abbrev state : ℕ → List ℕ
   state t = digits c t ++ rest
 
-  -- Every other field stands after the clock.
-  after-clock : (f : Field) → Valid f → same clock f ≡ false → c ≤ table f .0
-  after-clock f v e = go (decLt (table f .0) c)
+  -- Every other field stands after the clock: it shares no byte with it.
+  after-clock : (f : Field) → Valid f → kind f ≢ 0 → c ≤ table f .0
+  after-clock f v n = go (decLt (table f .0) c)
     where
       go : Dec (table f .0 < c) → c ≤ table f .0
       go (yes l) =
-          let n = nonempty table size (H .ownerKind) (H .ownerIndex) (H .owners) f v in
+          let h = nonempty table size (H .owner) (H .owners) f v in
           let a = H .first in
           let b = H .wide in
-          absurd (true≢false (sym (meet table size (H .ownerKind) (H .ownerIndex) (H .owners) clock f (omega arith) v (table f .0) 0 (omega arith) n (omega arith)) ∙ e))
+          absurd (n (sym (ap kind (meet table size (H .owner) (H .owners) clock f (omega arith) v (table f .0) 0 (omega arith) h (omega arith)))))
       go (no l) = omega arith
 
-  get-first : (t : ℕ) → getAt table (state t) clock ≡ t
+  -- The clock's bytes stand first.
+  get-clock : (t : ℕ) → getAt table (state t) clock ≡ t
   unfolding getAt
-  get-first t =
-      ap₂ (λ (w p : ℕ). value (take w (drop p (state t)))) (H .wide) (H .first)
-      ∙ ap value (take-at (digits c t) rest c (length-digits c t)) ∙ value-digits c t (H .some-bytes)
+  get-clock t = rw (H .wide, H .first, take-at (digits c t) rest c (length-digits c t)) (value-digits c t (H .some-bytes))
 
-  get-later : (t : ℕ) (f : Field) → Valid f → same clock f ≡ false → getAt table (state t) f ≡ freshField t f
+  -- A later field reads as it does at the clock 0.
+  get-later : (t : ℕ) (f : Field) → Valid f → kind f ≢ 0 → getAt table (state t) f ≡ freshField t f
   unfolding getAt
-  get-later t f v e =
-      let l = after-clock f v e in
+  get-later t f v n =
+      let l = after-clock f v n in
       let a = length-digits c t in
       ap (λ (l : List ℕ). value (take (table f .1) l)) (drop-past (digits c t) (digits c 0) rest (table f .0) (a ∙ sym (length-digits c 0)) (omega arith))
       ∙ eqb-true (getAt table (state 0) f) (freshField 0 f) (each-at (λ f. eqb (getAt table (state 0) f) (freshField 0 f)) (H .blank) f v)
-      ∙ fresh-other t f e
+      ∙ rw (ne-eqb (kind f) 0 n)
 
+  -- The clock, or a later field.
   get-fresh : (t : ℕ) (f : Field) → Valid f → getAt table (state t) f ≡ freshField t f
-  get-fresh t f v = go (same clock f) refl
+  get-fresh t f v = go (ℕ-discrete (kind f) 0)
     where
-      go : (b : Bool) → same clock f ≡ b → getAt table (state t) f ≡ freshField t f
-      go true e = subst (λ (f : Field). getAt table (state t) f ≡ freshField t f) (same-is table size (H .ownerKind) (H .ownerIndex) (H .owners) clock f e) (get-first t)
-      go false e = get-later t f v e
+      go : Dec (kind f ≡ 0) → getAt table (state t) f ≡ freshField t f
+      go (yes e) = subst (λ (f : Field). getAt table (state t) f ≡ freshField t f) (sym (ap (λ (k : ℕ). field k (index f)) e) ∙ field-of f .0) (get-clock t)
+      go (no n) = get-later t f v n
 
   -- All laws, from the tests.
   pub lawful-table : Laws (byTable c size table rest)
+  unfolding putAt
   lawful-table = record {
     some-bytes = H .some-bytes;
     few-bytes = H .few-bytes;
-    length-put = length-putAt table size (H .ownerKind) (H .ownerIndex) (H .owners);
-    get-put = getAt-putAt table size (H .ownerKind) (H .ownerIndex) (H .owners);
+    length-put = λ s f v. length-sets s (table f .0) (digits (table f .1) v);
+    get-put = getAt-putAt table size (H .owner) (H .owners);
     length-fresh = λ t. length-append (digits c t) rest ∙ ap (λ (n : ℕ). n + length rest) (length-digits c t) ∙ H .whole;
     get-fresh = get-fresh;
   }

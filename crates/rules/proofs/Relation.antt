@@ -1,0 +1,134 @@
+-- The relation of store and router, which each step of a call keeps: state and memory show settings, places and free list. Assumes nothing.
+use Prim.Native.Nat.{ℕ, _<_, _≤_}
+use mathlib.Core.Path.{_≡_, refl, sym, ap, subst, _∙_}
+use mathlib.Core.Bool.{Bool, false, not, _&&_, true≢false}
+use mathlib.Core.Logic.{_≢_}
+use mathlib.Core.List.{List}
+use mathlib.Core.Option.{Option, none, some}
+use native.Mathlib.Decide.{ℕ-discrete}
+use native.Mathlib.Omega.{arith}
+use lib.ListN.{length}
+use lib.Dec.{leb}
+use Rattle.rules.specs.Account.{Kept}
+use Rattle.rules.specs.Areas.{bits, packet, Store}
+use Rattle.rules.specs.Board.{Board, Field, clock, horizon, latch, free, idle, time, deadline, mask, outgoing, delay, routes}
+use Rattle.rules.specs.Clock.{cut}
+use Rattle.rules.specs.Demand3.{HeldShown}
+use Rattle.rules.specs.Questions.{stack}
+use Rattle.rules.specs.Whole.{Held, Router, withPlaces, put}
+use Rattle.rules.proofs.BoardLaws.{Laws, kind, Valid}
+use Rattle.rules.proofs.StateLaws.{Reads, reads-as, stack-same, length-stack}
+use Rattle.rules.proofs.WholeLaws.{put-same, put-other}
+
+-- ---- settings
+
+-- The kinds of field that a tick changes before the clock: free count, stack and slots; the others are settings.
+abbrev pub inner : ℕ → Bool
+inner k = leb 3 k && leb k 7
+
+abbrev pub outer : ℕ → Bool
+outer k = not (inner k)
+
+-- What the settings read, at a clock reading of c bytes.
+abbrev pub shown : ℕ → Router → Field → ℕ
+shown c w clock = cut (bits c) (w .clock)
+shown c w (horizon p) = w .horizon p
+shown c w (latch q) = w .latch q
+shown c w free = 0
+shown c w (idle i) = 0
+shown c w (time i) = 0
+shown c w (deadline i) = 0
+shown c w (mask i) = 0
+shown c w (outgoing i) = w .entry i .identifier
+shown c w (delay i) = w .entry i .delay
+shown c w (routes i) = w .entry i .mask
+
+-- Two readings agree on the settings where they do so kind by kind.
+pub on-settings : (σ τ : Field → ℕ) → σ clock ≡ τ clock → ((p : ℕ) → p < 5 → σ (horizon p) ≡ τ (horizon p)) → ((q : ℕ) → q < 4 → σ (latch q) ≡ τ (latch q))
+    → ((i : ℕ) → i < 256 → (σ (outgoing i) ≡ τ (outgoing i)) × (σ (delay i) ≡ τ (delay i)) × (σ (routes i) ≡ τ (routes i))) → (f : Field) → inner (kind f) ≡ false → Valid f → σ f ≡ τ f
+on-settings σ τ t h q n clock e v = t
+on-settings σ τ t h q n (horizon p) e v = h p v
+on-settings σ τ t h q n (latch r) e v = q r v
+on-settings σ τ t h q n free e v = absurd (true≢false e)
+on-settings σ τ t h q n (idle i) e v = absurd (true≢false e)
+on-settings σ τ t h q n (time i) e v = absurd (true≢false e)
+on-settings σ τ t h q n (deadline i) e v = absurd (true≢false e)
+on-settings σ τ t h q n (mask i) e v = absurd (true≢false e)
+on-settings σ τ t h q n (outgoing i) e v = n i v .0
+on-settings σ τ t h q n (delay i) e v = n i v .1
+on-settings σ τ t h q n (routes i) e v = n i v .2
+
+-- There are 256 places.
+pub kept-room : {f : ℕ → Option Held} {l : List ℕ} → Kept f l → length l ≤ 256
+kept-room K = let e = K .all in omega arith
+
+module _ (B : Board) (L : Laws B) where
+  open Board B using (clockBytes as c, get)
+
+  -- The state shows the settings of the router.
+  abbrev pub Settled : List ℕ → Router → Type 0
+  Settled s w = Reads B L inner s (shown c w)
+
+  -- Places and free list are no settings.
+  pub settled-places : {s : List ℕ} {w : Router} (f : ℕ → Option Held) (l : List ℕ) → Settled s w → Settled s (withPlaces w f l)
+  settled-places {s} {w} f l S = reads-as B L S (on-settings (shown c w) (shown c (withPlaces w f l)) refl (λ p h. refl) (λ q h. refl) (λ i h. (refl, refl, refl)))
+
+  -- ---- places
+
+  -- A slot shows a place; it may hold a packet with no port left.
+  abbrev pub Here : Store → ℕ → Option Held → Type 0
+  Here r i none = get (r .state) (mask i) ≡ 0
+  Here r i (some x) = HeldShown B r i x
+
+  -- Slot i and its memory are in r′ as in r.
+  pub record Untouched (r r′ : Store) (i : ℕ) : Type 0 where
+    pub time : get (r′ .state) (time i) ≡ get (r .state) (time i)
+    pub deadline : get (r′ .state) (deadline i) ≡ get (r .state) (deadline i)
+    pub mask : get (r′ .state) (mask i) ≡ get (r .state) (mask i)
+    pub bytes : packet (r′ .memory) i ≡ packet (r .memory) i
+
+  -- Such a slot shows what it did.
+  here-same : {r r′ : Store} {i : ℕ} (v : Option Held) → Untouched r r′ i → Here r i v → Here r′ i v
+  here-same none U h = U .mask ∙ h
+  here-same (some x) U h = record { time = U .time ∙ h .time; deadline = U .deadline ∙ h .deadline; left = U .mask ∙ h .left; bytes = U .bytes ∙ h .bytes }
+
+  -- ---- the relation
+
+  -- State and memory show the router.
+  pub record Rel (r : Store) (w : Router) : Type 0 where
+    pub settled : Settled (r .state) w
+    pub whole : length (r .memory) ≡ 5120
+    pub place : (i : ℕ) → i < 256 → Here r i (w .place i)
+    pub stack : stack B (r .state) ≡ w .free
+
+  -- The store with another state.
+  abbrev pub with-state : Store → List ℕ → Store
+  with-state r s = record { state = s; memory = r .memory }
+
+  module _ {r : Store} {w : Router} (R : Rel r w) where
+    -- The free count is the length of the free list.
+    pub rel-free : get (r .state) free ≡ length (w .free)
+    rel-free = sym (length-stack B L (r .state)) ∙ ap length (R .stack)
+
+    -- It is at most 256.
+    pub rel-room : Kept (w .place) (w .free) → get (r .state) free ≤ 256
+    rel-room K = let e = rel-free in let k = kept-room K in omega arith
+
+    -- Where slot j alone changed, and shows v, each slot shows its place.
+    pub here-put : {r′ : Store} (j : ℕ) (v : Option Held) → Here r′ j v → ((q : ℕ) → q < 256 → q ≢ j → Untouched r r′ q) → (q : ℕ) → q < 256 → Here r′ q (put (w .place) j v q)
+    here-put {r′} j v h U q l = go (ℕ-discrete q j)
+      where
+        go : Dec (q ≡ j) → Here r′ q (put (w .place) j v q)
+        go (yes e) = subst (λ (q : ℕ). Here r′ q (put (w .place) j v q)) (sym e) (subst (Here r′ j) (sym (put-same (w .place) j v)) h)
+        go (no n) = subst (Here r′ q) (sym (put-other (w .place) j v q n)) (here-same (w .place q) (U q l n) (R .place q l))
+
+    -- Where only settings change, places and stack stay.
+    pub rel-settings : {s′ : List ℕ} {w′ : Router} → Kept (w .place) (w .free) → Settled s′ w′ → Reads B L outer s′ (get (r .state)) → w′ .place ≡ w .place → w′ .free ≡ w .free → Rel (with-state r s′) w′
+    rel-settings {s′} {w′} K S O ep ef = record {
+      settled = S;
+      whole = R .whole;
+      place = λ i l.
+          here-same (w′ .place i) (record { time = O .same (time i) refl l; deadline = O .same (deadline i) refl l; mask = O .same (mask i) refl l; bytes = refl })
+          (subst (λ f. Here r i (f i)) (sym ep) (R .place i l));
+      stack = stack-same B L (r .state) s′ (rel-room K) (O .same free refl (omega arith)) (λ i l. O .same (idle i) refl l) ∙ R .stack ∙ sym ef;
+    }
