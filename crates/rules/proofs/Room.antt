@@ -8,7 +8,7 @@ use native.Mathlib.Decide.{ℕ-discrete}
 use native.Mathlib.Omega.{arith}
 use lib.ListN.{length}
 use lib.Dec.{leb, eqb}
-use borrow.Author.Tests.{eq-eqb, ne-eqb, eqb-true}
+use borrow.Author.Tests.{ne-eqb}
 use Rattle.rules.specs.Areas.{Store, byte, bits, stamp, elem, distinct}
 use Rattle.rules.specs.Board.{Board, free, idle, time, deadline, mask, delay, routes}
 use Rattle.rules.specs.Clock.{plus}
@@ -17,6 +17,9 @@ use Rattle.rules.specs.Questions.{stack, listed, stackSound}
 use Rattle.rules.specs.Tick.{placed}
 use Rattle.rules.proofs.Booleans.{and-left, and-right, not-false, beq-eq}
 use Rattle.rules.proofs.BoardLaws.{Laws}
+use Rattle.rules.proofs.WholeLaws.{elem-first, elem-other}
+use Rattle.rules.proofs.Soundness.{at-elem}
+use Rattle.rules.proofs.StateLaws.{length-topFirst}
 use Rattle.rules.proofs.IndexLaws.{all-at, count-same, count-change, count-none, counted-true, counted-false}
 
 -- ---- counts
@@ -46,29 +49,6 @@ count-one-more f g i (suc k) h = go (ℕ-discrete k i) (count-one-more f g i k (
     go (no n) a = let e = ap counted (h k (omega arith) n) in omega arith
 
 -- ---- lists of different slots
-
-pub elem-first : (i : ℕ) (l : List ℕ) → elem i (i ∷ l) ≡ true
-unfolding elem
-elem-first i l = rw (eq-eqb i i refl)
-
-pub elem-other : (i j : ℕ) (l : List ℕ) → j ≢ i → elem j (i ∷ l) ≡ elem j l
-unfolding elem
-elem-other i j l n = rw (ne-eqb j i n)
-
--- What is in a list by indices stands at one of them.
-elem-topFirst : (f : ℕ → ℕ) (n x : ℕ) → elem x (topFirst f n) ≡ true → (j : ℕ) × (j < n) × (f j ≡ x)
-unfolding elem topFirst
-elem-topFirst f zero x e = absurd (true≢false (sym e))
-elem-topFirst f (suc n) x e = go (eqb x (f n)) refl e (elem-topFirst f n x)
-  where
-    go : (t : Bool) → eqb x (f n) ≡ t → (t || elem x (topFirst f n)) ≡ true → (elem x (topFirst f n) ≡ true → (j : ℕ) × (j < n) × (f j ≡ x)) → (j : ℕ) × (j < suc n) × (f j ≡ x)
-    go true q e h = (n, omega arith, sym (eqb-true x (f n) q))
-    go false q e h = let (j, l, k) = h e in (j, omega arith, k)
-
-length-topFirst : (f : ℕ → ℕ) (n : ℕ) → length (topFirst f n) ≡ n
-unfolding topFirst
-length-topFirst f zero = refl
-length-topFirst f (suc n) = ap suc (length-topFirst f n)
 
 -- A list of different slots has as many entries as there are slots in it: one entry after the other.
 count-elem : (l : List ℕ) → distinct l ≡ true → ((x : ℕ) → elem x l ≡ true → x < 256) → count 256 (λ i. elem i l) ≡ length l
@@ -109,7 +89,7 @@ module _ (B : Board) (L : Laws B) where
       let m = and-right (distinct l) (all 256 (listed B s)) a in
       let q = count-same (λ i. elem i l) (λ i. eqb (get s (mask i)) 0) 256 (λ i h. beq-eq (elem i l) (eqb (get s (mask i)) 0) (all-at (listed B s) 256 i m h)) in
       let n = count-not (λ i. eqb (get s (mask i)) 0) 256 in
-      let k = count-elem l d (λ x h. within x (elem-topFirst (λ i. get s (idle i)) (get s free) x h)) in
+      let k = count-elem l d (λ x h. within x (at-elem (λ i. get s (idle i)) x (get s free) h)) in
       let z = length-topFirst (λ i. get s (idle i)) (get s free) in
       omega arith
     where

@@ -21,7 +21,7 @@ topFirst-same f g zero h = refl
 topFirst-same f g (suc n) h = ap₂ (λ (x : ℕ) (l : List ℕ). x ∷ l) (h n (omega arith)) (topFirst-same f g n (λ i l. h i (omega arith)))
 
 -- A stack of n has n entries.
-length-topFirst : (f : ℕ → ℕ) (n : ℕ) → length (topFirst f n) ≡ n
+pub length-topFirst : (f : ℕ → ℕ) (n : ℕ) → length (topFirst f n) ≡ n
 unfolding topFirst
 length-topFirst f zero = refl
 length-topFirst f (suc n) = ap suc (length-topFirst f n)

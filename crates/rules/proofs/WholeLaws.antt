@@ -168,11 +168,11 @@ module _ (c : ℕ) where
 -- ---- free places
 
 -- The first entry is one, and hides no other.
-elem-first : (i : ℕ) (l : List ℕ) → elem i (i ∷ l) ≡ true
+pub elem-first : (i : ℕ) (l : List ℕ) → elem i (i ∷ l) ≡ true
 unfolding elem
 elem-first i l = rw (eq-eqb i i refl)
 
-elem-other : (i j : ℕ) (l : List ℕ) → j ≢ i → elem j (i ∷ l) ≡ elem j l
+pub elem-other : (i j : ℕ) (l : List ℕ) → j ≢ i → elem j (i ∷ l) ≡ elem j l
 unfolding elem
 elem-other i j l n = rw (ne-eqb j i n)
 

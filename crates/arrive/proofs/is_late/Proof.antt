@@ -1,0 +1,34 @@
+-- `is_late` meets its contract: `in_time` tells whether the offset is at least - d, and the answer is its no (`late-is`). Assumes nothing.
+use Rattle.arrive.proofs.Laws.{late-is}
+use borrow.Author.Needs.{needs}
+use Rattle.arrive.proofs.is_late.Statement.{statement}
+use Rattle.arrive.proofs.is_late.Tie as tie
+
+shared-slice-read-t7 : tie.Need-shared-slice-read-t7
+shared-slice-read-t7 c = search needs
+
+get-requires : tie.Need-get-requires
+get-requires c κs = search needs
+
+shared-slice-read-t7-2 : tie.Need-shared-slice-read-t7-2
+shared-slice-read-t7-2 c = search needs
+
+get-requires-2 : tie.Need-get-requires-2
+get-requires-2 c κs = search needs
+
+in-time-requires : tie.Need-in-time-requires
+in-time-requires c κs = search needs
+
+returns : tie.Need-returns
+returns c = late-is _ _ _ _ _ (c .before .before .before .get .ensures) (c .before .get2 .ensures) (c .in-time .ensures)
+
+pub is-late-spec : {M : Type 1} → statement M
+is-late-spec =
+    tie.close
+    (tie.spec
+    shared-slice-read-t7
+    get-requires
+    shared-slice-read-t7-2
+    get-requires-2
+    in-time-requires
+    returns)

@@ -1,0 +1,141 @@
+// Step 1 of a tick: arrivals, port 0 first.
+ghost use mathlib.Core.Path.{_≡_};
+ghost use mathlib.Core.List.{_∷_, []};
+ghost use Prim.Native.Nat.{_*_, _<_};
+ghost use lib.ListN.{length};
+ghost use lib.Seq.{sets};
+ghost use Rattle.rules.specs.Areas.{payload, packed, perPort};
+ghost use Rattle.rules.specs.Board.{free};
+ghost use Rattle.rules.specs.Board8.{board8};
+ghost use Rattle.rules.specs.Tick.{arrival, placed, admitted, arrived};
+ghost use Rattle.area.specs.Room.{Room};
+ghost use Rattle.arrive.specs.Arrivals.{number, late, store, met};
+use area::ConnectionId;
+use area::Field;
+use area::SlotAddress;
+use clock::ClockReading;
+
+// What an arrival meets: no packet, a slot, or the refusal of question 6, 7 or 8.
+pub enum Arrival {
+    Absent,
+    Stored,
+    Closed,
+    Late,
+    Full,
+}
+
+fn number(a: Arrival) -> u8
+    ensures { λ r. ⌜ r ≡ number a ⌝ }
+{
+    match a {
+        Arrival::Absent => 0,
+        Arrival::Stored => 1,
+        Arrival::Closed => 6,
+        Arrival::Late => 7,
+        Arrival::Full => 8,
+    }
+}
+
+// Question 7: is the offset below -d?
+fn is_late(state: &[u8], packet: &[u8]) -> bool
+    requires { ⌜ length (now packet) ≡ 20 ⌝ }
+    ensures { λ r. ⌜ r ≡ late (now (state .entry)) (now (packet .entry)) ⌝ }
+{
+    let time = ClockReading(packet[1]);
+    let t = ClockReading(area::get(state, Field::Clock));
+    let d = area::get(state, Field::Delay(ConnectionId(packet[0])));
+    !clock::in_time(time, t, d)
+}
+
+// Questions 6 to 8.
+fn meets(state: &[u8], packet: &[u8], arriving: u8, port: u8) -> Arrival
+    requires { ⌜ (length (now state) ≡ 1804) × (length (now packet) ≡ 20) × (port < 5) ⌝ }
+    ensures { λ r. ⌜ number r ≡ arrival board8 (now (state .entry)) arriving port (now (packet .entry)) ⌝ }
+{
+    if !area::has_port(arriving, port) {
+        return Arrival::Absent;
+    }
+    if area::get(state, Field::Routes(ConnectionId(packet[0]))) == 0 {
+        return Arrival::Closed;
+    }
+    if is_late(state, packet) {
+        return Arrival::Late;
+    }
+    if area::free_count(state) == 0 {
+        return Arrival::Full;
+    }
+    Arrival::Stored
+}
+
+// The memory gets the packet with its outgoing identifier and its deadline. The data go by way of an array: the compiler
+// can't tell the areas apart, and moves whole words only between the array and each of them.
+fn store_packet(
+    memory: &mut [u8],
+    s: SlotAddress,
+    identifier: ConnectionId,
+    deadline: ClockReading,
+    packet: &[u8],
+)
+    requires { ⌜ (length (now memory) ≡ 5120) × (length (now packet) ≡ 20) ⌝ }
+    ensures { λ _. ⌜ now (memory .exit) ≡ sets (now (memory .entry)) (20 * s .0) (packed 1 (identifier .0) (deadline .0) (payload 1 (now (packet .entry)))) ⌝ }
+{
+    let mut data = [0u8; 18];
+    area::copy_in(&packet[2..], &mut data, 0);
+    let at = 20 * (s.0 as usize);
+    memory[at] = identifier.0;
+    memory[at + 1] = deadline.0;
+    area::copy_in(&data, memory, at + 2);
+}
+
+// The accepted packet takes the top idle address.
+fn place(state: &mut [u8], memory: &mut [u8], packet: &[u8])
+    requires { ⌜ (length (now state) ≡ 1804) × (length (now memory) ≡ 5120) × (length (now packet) ≡ 20) × (0 < board8 .get (now state) free) ⌝ }
+    ensures after { λ _. ⌜ store (now (state .exit)) (now (memory .exit)) ≡ placed board8 (store (now (state .entry)) (now (memory .entry))) (now (packet .entry)) ⌝ }
+    ensures room { λ _. ⌜ (Room (now (state .entry)) → Room (now (state .exit))) ⌝ }
+{
+    let c = ConnectionId(packet[0]);
+    let time = ClockReading(packet[1]);
+    let deadline = clock::later(time, area::get(state, Field::Delay(c)));
+    let mask = area::get(state, Field::Routes(c));
+    let identifier = ConnectionId(area::get(state, Field::Outgoing(c)));
+    let n = area::free_count(state) - 1;
+    let s = SlotAddress(area::get(state, Field::Idle(n)));
+    store_packet(memory, s, identifier, deadline, packet);
+    area::put_free(state, n);
+    area::put(state, Field::Time(s), time.0);
+    area::put(state, Field::Deadline(s), deadline.0);
+    area::put(state, Field::Mask(s), mask);
+}
+
+// One port's arrival.
+fn admit(state: &mut [u8], memory: &mut [u8], packet: &[u8], arriving: u8, port: u8) -> Arrival
+    requires { ⌜ (length (now state) ≡ 1804) × (length (now memory) ≡ 5120) × (length (now packet) ≡ 20) × (port < 5) ⌝ }
+    ensures number { λ r. ⌜ number r ≡ arrival board8 (now (state .entry)) arriving port (now (packet .entry)) ⌝ }
+    ensures after { λ _. ⌜ store (now (state .exit)) (now (memory .exit)) ≡ admitted board8 (store (now (state .entry)) (now (memory .entry))) arriving port (now (packet .entry)) ⌝ }
+    ensures room { λ _. ⌜ (Room (now (state .entry)) → Room (now (state .exit))) ⌝ }
+{
+    let a = meets(state, packet, arriving, port);
+    if let Arrival::Stored = a {
+        place(state, memory, packet);
+    }
+    a
+}
+
+// Step 1 for the five ports, and what each meets.
+pub fn arrive(state: &mut [u8], memory: &mut [u8], arrivals: &[u8], arriving: u8) -> [u8; 5]
+    requires { ⌜ (length (now state) ≡ 1804) × (length (now memory) ≡ 5120) × (length (now arrivals) ≡ 100) ⌝ }
+    ensures answers { λ r. ⌜ r ≡ perPort (λ p. met (store (now (state .entry)) (now (memory .entry))) arriving (now (arrivals .entry)) p ∷ []) ⌝ }
+    ensures after { λ _. ⌜ store (now (state .exit)) (now (memory .exit)) ≡ arrived board8 5 arriving (now (arrivals .entry)) (store (now (state .entry)) (now (memory .entry))) ⌝ }
+    ensures room { λ _. ⌜ (Room (now (state .entry)) → Room (now (state .exit))) ⌝ }
+{
+    let mut answers = [0u8; 5];
+    let mut p: u8 = 0;
+    while p < 5 {
+        let a = 20 * (p as usize);
+        let e = a + 20;
+        let met = admit(state, memory, &arrivals[a..e], arriving, p);
+        answers[p as usize] = number(met);
+        p += 1;
+    }
+    answers
+}

@@ -1,0 +1,67 @@
+-- `control::commit_horizon` meets its contract. The loop's invariant: the state has the horizon for the ports of the mask below `port`. The measure is what is
+-- left of five. Assumes nothing.
+use Prim.Native.Nat.{_≤_, _-_}
+use mathlib.Core.Logic.{⊎-elim}
+use mathlib.Core.Path.{_≡_, refl, ap}
+use native.Mathlib.Numerals.{add-one}
+use native.Mathlib.Omega.{arith}
+use lib.ListN.{length}
+use Rattle.rules.specs.Board8.{board8}
+use Rattle.rules.specs.Control.{commitHorizon}
+use Rattle.control.specs.declared.Latch.{Latch}
+use borrow.Author.Needs.{needs}
+use Rattle.control.proofs.commit_horizon.Statement.{statement}
+use Rattle.control.proofs.commit_horizon.Tie as tie
+
+abbrev Inv-loop : tie.InvT-loop
+Inv-loop state₀ horizon mask port₀ state port = (port ≤ 5) × (length state ≡ length state₀) × (state ≡ commitHorizon board8 port mask horizon state₀)
+
+abbrev μ-loop : tie.MeasureT-loop
+μ-loop state₀ horizon mask port₀ state port = 5 - port
+
+read-requires : tie.Need-read-requires Inv-loop μ-loop
+read-requires c κs = search needs
+
+loop-holds : tie.Need-loop-holds Inv-loop μ-loop
+unfolding commitHorizon
+loop-holds c = (search needs, refl, refl)
+
+has-port-requires : tie.Need-has-port-requires Inv-loop μ-loop
+has-port-requires c κs = search needs
+
+put-requires : tie.Need-put-requires Inv-loop μ-loop
+put-requires c κs = search needs
+
+add-port : tie.Need-add-port Inv-loop μ-loop
+add-port c = search needs
+
+loop-less : tie.Need-loop-less Inv-loop μ-loop
+loop-less c = search needs
+
+loop-again : tie.Need-loop-again Inv-loop μ-loop
+unfolding commitHorizon
+loop-again c = let l = c .before .before .before .loop in
+    let h = c .before .has-port .ensures in
+    ⊎-elim (λ w. (search needs, search needs, rw (add-one (l .port), ← h, w .0 .taken) (cc))) (λ w. (search needs, search needs, rw (add-one (l .port), ← h, w .0 .left) (cc))) (c .if1 .came)
+
+same-length : tie.Need-same-length Inv-loop μ-loop
+same-length c = search needs
+
+returns : tie.Need-returns Inv-loop μ-loop
+returns c = let e : c .before .loop .port ≡ 5 = omega arith in rw (← ap (λ (l : Latch). l .horizons) (c .before .before .read .ensures), ← e) (c .before .loop .inv .2)
+
+pub commit-horizon-spec : {M : Type 1} → statement M
+commit-horizon-spec =
+    tie.close
+    (tie.spec
+    Inv-loop
+    μ-loop
+    read-requires
+    loop-holds
+    has-port-requires
+    put-requires
+    add-port
+    loop-less
+    loop-again
+    same-length
+    returns)

@@ -1,0 +1,75 @@
+-- `fresh::make_fresh` meets its contract. Each refusal alters nothing; past them the stores make the fresh state and zero memory (`accepted` of Laws).
+-- Assumes nothing.
+use borrow.Author.Needs.{needs}
+use mathlib.Core.Path.{ap, _∙_}
+use native.Mathlib.Omega.{arith}
+use lib.ListN.{length}
+use Rattle.fresh.proofs.Laws.{length-fresh, refused-state, refused-memory, accepted}
+use Rattle.fresh.proofs.make_fresh.Statement.{statement}
+use Rattle.fresh.proofs.make_fresh.Tie as tie
+
+number-requires : tie.Need-number-requires
+number-requires c κs = search needs
+
+returns : tie.Need-returns
+returns c = refused-state _ _ _ (c .before .if1 .taken) (c .number .ensures)
+
+number-requires-2 : tie.Need-number-requires-2
+number-requires-2 c κs = search needs
+
+returns-2 : tie.Need-returns-2
+returns-2 c = refused-memory _ _ _ (c .before .before .if1 .left) (c .before .if2 .taken) (c .number2 .ensures)
+
+fresh-requires : tie.Need-fresh-requires
+fresh-requires c κs = search needs
+
+slice-aggregate-copy-in : tie.Need-slice-aggregate-copy-in
+slice-aggregate-copy-in c = search needs
+
+copy-in-requires : tie.Need-copy-in-requires
+copy-in-requires c κs =
+    let made = c .before .before .before .before in
+    let e = ap length (made .fresh .ensures .0) ∙ length-fresh (made .before .before .before .before .before .args .clock) in
+    omega (arith, made .before .before .if1 .left)
+
+put-slots-requires : tie.Need-put-slots-requires
+put-slots-requires c κs = search needs
+
+clear-requires : tie.Need-clear-requires
+clear-requires c κs = search needs
+
+number-requires-3 : tie.Need-number-requires-3
+number-requires-3 c κs = search needs
+
+same-length : tie.Need-same-length
+same-length c = search needs
+
+same-length-2 : tie.Need-same-length-2
+same-length-2 c = search needs
+
+returns-3 : tie.Need-returns-3
+returns-3 c =
+    let cleared = c .before .before .before in
+    let emptied = cleared .before .before .before .before in
+    let copied = emptied .before .before .before .before in
+    let made = copied .before .before .before .before .before in
+    accepted _ _ _ _ _ _ _ (made .fresh .ensures .0) (copied .copy-in .ensures) (emptied .put-slots .ensures) (cleared .clear .ensures)
+    (made .before .before .if1 .left) (made .before .if2 .left) (c .number3 .ensures)
+
+pub make-fresh-spec : {M : Type 1} → statement M
+make-fresh-spec =
+    tie.close
+    (tie.spec
+    number-requires
+    returns
+    number-requires-2
+    returns-2
+    fresh-requires
+    slice-aggregate-copy-in
+    copy-in-requires
+    put-slots-requires
+    clear-requires
+    number-requires-3
+    same-length
+    same-length-2
+    returns-3)

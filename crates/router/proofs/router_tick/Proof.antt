@@ -1,0 +1,69 @@
+-- `router::router_tick` meets its contract: a number other than 0 alters nothing, and with 0 the areas are whole, the stack has room, and the work is `ticked`.
+-- Assumes nothing.
+use borrow.Author.Needs.{needs}
+use mathlib.Core.Path.{sym, _∙_}
+use Rattle.router.proofs.Laws.{tick-refused, tick-accepted}
+use Rattle.router.proofs.router_tick.Statement.{statement}
+use Rattle.router.proofs.router_tick.Tie as tie
+
+tick-questions-requires : tie.Need-tick-questions-requires
+tick-questions-requires c κs = search needs
+
+number-requires : tie.Need-number-requires
+number-requires c κs = search needs
+
+same-length : tie.Need-same-length
+same-length c = search needs
+
+same-length-2 : tie.Need-same-length-2
+same-length-2 c = search needs
+
+same-length-3 : tie.Need-same-length-3
+same-length-3 c = search needs
+
+same-length-4 : tie.Need-same-length-4
+same-length-4 c = search needs
+
+returns : tie.Need-returns
+returns c = tick-refused _ _ _ _ _ _ _ (c .before .number .ensures ∙ c .before .before .tick-questions .ensures .0) (c .if1 .taken)
+
+work-requires : tie.Need-work-requires
+work-requires c κs =
+    let i = c .before .before .before .before in
+    i .before .before .tick-questions .ensures .1 (sym (i .before .number .ensures) ∙ i .if1 .left)
+
+same-length-5 : tie.Need-same-length-5
+same-length-5 c = search needs
+
+same-length-6 : tie.Need-same-length-6
+same-length-6 c = search needs
+
+same-length-7 : tie.Need-same-length-7
+same-length-7 c = search needs
+
+same-length-8 : tie.Need-same-length-8
+same-length-8 c = search needs
+
+returns-2 : tie.Need-returns-2
+returns-2 c =
+    let w = c .before .before .before .before .before .before .before .before in
+    let i = w .before .before .before .before .before in
+    tick-accepted _ _ _ _ _ _ _ (i .before .number .ensures ∙ i .before .before .tick-questions .ensures .0) (i .if1 .left) _ _ _ (w .work .ensures)
+
+pub router-tick-spec : {M : Type 1} → statement M
+router-tick-spec =
+    tie.close
+    (tie.spec
+    tick-questions-requires
+    number-requires
+    same-length
+    same-length-2
+    same-length-3
+    same-length-4
+    returns
+    work-requires
+    same-length-5
+    same-length-6
+    same-length-7
+    same-length-8
+    returns-2)

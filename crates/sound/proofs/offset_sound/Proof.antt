@@ -1,0 +1,20 @@
+-- `sound::offset_sound` meets its contract, by the law `offset-window`. Assumes nothing.
+use Rattle.sound.proofs.Laws.{offset-window}
+use borrow.Author.Needs.{needs}
+use Rattle.sound.proofs.offset_sound.Statement.{statement}
+use Rattle.sound.proofs.offset_sound.Tie as tie
+
+later-requires : tie.Need-later-requires
+later-requires c κs = search needs
+
+since-requires : tie.Need-since-requires
+since-requires c κs = search needs
+
+add-result : tie.Need-add-result
+add-result c = search needs
+
+returns : tie.Need-returns
+returns c = offset-window _ _ _ _ _ (search needs) (search needs) (c .before .before .pre) (c .before .later .ensures) (c .since .ensures)
+
+pub offset-sound-spec : {M : Type 1} → statement M
+offset-sound-spec = tie.close (tie.spec later-requires since-requires add-result returns)

@@ -1,0 +1,199 @@
+// Question 2: is the state sound? A function for each part, settings, stack and slots, and one pass over each list of the state.
+ghost use mathlib.Core.Path.{_≡_};
+ghost use mathlib.Core.Bool.{true, false, _&&_, Bool·beq};
+ghost use Prim.Native.Nat.{ℕ, _≤_, _<_};
+ghost use lib.IntN.{pos, negℤ};
+ghost use lib.Signed.{leZ};
+ghost use lib.ListN.{length, getD, replicate};
+ghost use Rattle.rules.specs.Indices.{all};
+ghost use Rattle.rules.specs.Clock.{offset};
+ghost use Rattle.rules.specs.Areas.{bits, elem, distinct};
+ghost use Rattle.rules.specs.Board.{idle};
+ghost use Rattle.rules.specs.Board8.{board8};
+ghost use Rattle.rules.specs.Questions.{connectionSound, horizonSound, settingsSound, stack, listed, stackSound, slotSound, slotsSound, sound};
+ghost use Rattle.area.specs.Room.{Room};
+ghost use Rattle.sound.specs.Entries.{entries};
+use area::ConnectionId;
+use area::Field;
+use area::SlotAddress;
+use clock::ClockReading;
+
+// Both tests hold, without a branch.
+fn both(a: bool, b: bool) -> bool
+    ensures { λ r. ⌜ r ≡ (a && b) ⌝ }
+{
+    a & b
+}
+
+// Both tests hold, or neither does.
+fn same(a: bool, b: bool) -> bool
+    ensures { λ r. ⌜ r ≡ Bool·beq a b ⌝ }
+{
+    a == b
+}
+
+// A connection's delay and mask are in range.
+fn connection_sound(state: &[u8], c: ConnectionId) -> bool
+    requires { ⌜ length (now state) ≡ 1804 ⌝ }
+    ensures { λ r. ⌜ r ≡ connectionSound board8 (now (state .entry)) (c .0) ⌝ }
+{
+    if 128 <= area::read(state, Field::Delay(c)) {
+        return false;
+    }
+    area::read(state, Field::Routes(c)) <= 31
+}
+
+fn connections_sound(state: &[u8]) -> bool
+    requires { ⌜ length (now state) ≡ 1804 ⌝ }
+    ensures { λ r. ⌜ r ≡ all 256 (connectionSound board8 (now (state .entry))) ⌝ }
+{
+    let mut i: usize = 0;
+    while i < 256 {
+        if !connection_sound(state, ConnectionId(i as u8)) {
+            return false;
+        }
+        i += 1;
+    }
+    true
+}
+
+fn horizons_sound(state: &[u8]) -> bool
+    requires { ⌜ length (now state) ≡ 1804 ⌝ }
+    ensures { λ r. ⌜ r ≡ all 5 (horizonSound board8 (now (state .entry))) ⌝ }
+{
+    let mut p: u8 = 0;
+    while p < 5 {
+        if 128 <= area::read(state, Field::Horizon(p)) {
+            return false;
+        }
+        p += 1;
+    }
+    true
+}
+
+// Connection table, horizons and control latch.
+fn settings_sound(state: &[u8]) -> bool
+    requires { ⌜ length (now state) ≡ 1804 ⌝ }
+    ensures { λ r. ⌜ r ≡ settingsSound board8 (now (state .entry)) ⌝ }
+{
+    if !connections_sound(state) {
+        return false;
+    }
+    if !horizons_sound(state) {
+        return false;
+    }
+    let delay = area::read(state, Field::Latch(1)) < 128;
+    let routes = area::read(state, Field::Latch(2)) <= 31;
+    let horizons = area::read(state, Field::Latch(3)) <= 31;
+    both(delay, both(routes, horizons))
+}
+
+// Marks the slots among the first n entries of the stack, and says whether these are different.
+fn mark(state: &[u8], n: u16, seen: &mut [bool; 256]) -> bool
+    requires { ⌜ (length (now state) ≡ 1804) × (n ≤ 256) × (now seen ≡ replicate 256 false) ⌝ }
+    ensures { λ r. ⌜ (r ≡ distinct (entries (now (state .entry)) n)) × ((a : ℕ) → a < 256 → getD (now (seen .exit)) a false ≡ elem a (entries (now (state .entry)) n)) × ((j : ℕ) → j < n → board8 .get (now (state .entry)) (idle j) < 256) ⌝ }
+{
+    let mut distinct = true;
+    let mut i: u16 = 0;
+    while i < n {
+        let a = area::read(state, Field::Idle(i)) as usize;
+        distinct = both(!seen[a], distinct);
+        seen[a] = true;
+        i += 1;
+    }
+    distinct
+}
+
+// The slots marked are exactly those with mask 0.
+fn all_listed(state: &[u8], seen: &[bool; 256]) -> bool
+    requires { ⌜ (length (now state) ≡ 1804) × ((a : ℕ) → a < 256 → getD (now seen) a false ≡ elem a (stack board8 (now state))) ⌝ }
+    ensures { λ r. ⌜ r ≡ all 256 (listed board8 (now (state .entry))) ⌝ }
+{
+    let mut ok = true;
+    let mut i: usize = 0;
+    while i < 256 {
+        let empty = area::read(state, Field::Mask(SlotAddress(i as u8))) == 0;
+        ok = both(ok, same(seen[i], empty));
+        i += 1;
+    }
+    ok
+}
+
+// Free count and idle-address stack.
+fn stack_sound(state: &[u8]) -> bool
+    requires { ⌜ length (now state) ≡ 1804 ⌝ }
+    ensures sound { λ r. ⌜ r ≡ stackSound board8 (now (state .entry)) ⌝ }
+    ensures room { λ r. ⌜ (r ≡ true → Room (now (state .entry))) ⌝ }
+{
+    let n = area::free_count(state);
+    if 256 < n {
+        return false;
+    }
+    let mut seen = [false; 256];
+    if !mark(state, n, &mut seen) {
+        return false;
+    }
+    all_listed(state, &seen)
+}
+
+// The offset of the time is -d to 126: counted from -d on, among the first d + 127 of the clock's 256 readings.
+fn offset_sound(time: ClockReading, t: ClockReading, d: u8) -> bool
+    requires { ⌜ d < 128 ⌝ }
+    ensures { λ r. ⌜ r ≡ (leZ (negℤ (pos d)) (offset (bits 1) (time .0) (t .0)) && leZ (offset (bits 1) (time .0) (t .0)) (pos 126)) ⌝ }
+{
+    clock::since(clock::later(time, d), t) < d + 127
+}
+
+// The slot is empty, or holds a packet whose mask, delay, time and header are in order.
+fn slot_sound(state: &[u8], memory: &[u8], s: SlotAddress) -> bool
+    requires { ⌜ (length (now state) ≡ 1804) × (length (now memory) ≡ 5120) ⌝ }
+    ensures { λ r. ⌜ r ≡ slotSound board8 (record { state = now (state .entry); memory = now (memory .entry) }) (s .0) ⌝ }
+{
+    let mask = area::read(state, Field::Mask(s));
+    if mask == 0 {
+        return true;
+    }
+    if 31 < mask {
+        return false;
+    }
+    let time = ClockReading(area::read(state, Field::Time(s)));
+    let deadline = ClockReading(area::read(state, Field::Deadline(s)));
+    let d = clock::since(deadline, time);
+    if 128 <= d {
+        return false;
+    }
+    let t = ClockReading(area::read(state, Field::Clock));
+    if !offset_sound(time, t, d) {
+        return false;
+    }
+    memory[20 * (s.0 as usize) + 1] == deadline.0
+}
+
+fn slots_sound(state: &[u8], memory: &[u8]) -> bool
+    requires { ⌜ (length (now state) ≡ 1804) × (length (now memory) ≡ 5120) ⌝ }
+    ensures { λ r. ⌜ r ≡ slotsSound board8 (record { state = now (state .entry); memory = now (memory .entry) }) ⌝ }
+{
+    let mut i: usize = 0;
+    while i < 256 {
+        if !slot_sound(state, memory, SlotAddress(i as u8)) {
+            return false;
+        }
+        i += 1;
+    }
+    true
+}
+
+// Question 2, its parts in order.
+pub fn is_sound(state: &[u8], memory: &[u8]) -> bool
+    requires { ⌜ (length (now state) ≡ 1804) × (length (now memory) ≡ 5120) ⌝ }
+    ensures sound { λ r. ⌜ r ≡ sound board8 (record { state = now (state .entry); memory = now (memory .entry) }) ⌝ }
+    ensures room { λ r. ⌜ (r ≡ true → Room (now (state .entry))) ⌝ }
+{
+    if !settings_sound(state) {
+        return false;
+    }
+    if !stack_sound(state) {
+        return false;
+    }
+    slots_sound(state, memory)
+}
