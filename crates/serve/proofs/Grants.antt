@@ -23,7 +23,7 @@ use Rattle.rules.proofs.Booleans.{none-some}
 use Rattle.rules.proofs.IndexLaws.{least-in}
 use Rattle.rules.proofs.Masks.{has-without-other}
 use Rattle.rules.proofs.FieldBytes.{get-other, length-put}
-use Rattle.serve.proofs.Stores.{mask-same, mask-other}
+use Rattle.settle.proofs.Stores.{mask-same, mask-other}
 
 -- ---- any mask, by its five low bits
 

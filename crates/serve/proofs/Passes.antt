@@ -4,7 +4,7 @@ use mathlib.Core.Path.{_≡_, refl, sym, ap, ap₂, _∙_}
 use mathlib.Core.Bool.{Bool, true, false, cond, not, _&&_, _||_}
 use mathlib.Core.List.{List, [], _∷_}
 use mathlib.Core.Logic.{_≢_}
-use native.Mathlib.Decide.{ℕ-discrete, decLt}
+use native.Mathlib.Decide.{ℕ-discrete}
 use native.Mathlib.Omega.{arith}
 use lib.ListN.{length, getD}
 use lib.Dec.{eqb}
@@ -14,15 +14,15 @@ use Rattle.rules.specs.Areas.{has, without, perPort, Grant, nobody, bestEffort,
 use Rattle.rules.specs.Board.{Field, clock, free, deadline, mask}
 use Rattle.rules.specs.Board8.{board8, table8}
 use Rattle.rules.specs.Tick.{grant, sent, served, isDue, withdrawn, withdrawals, giveBack, returned, advanced}
-use Rattle.rules.proofs.Booleans.{not-false}
 use Rattle.rules.proofs.IndexLaws.{count-same}
 use Rattle.rules.proofs.FieldBytes.{get-other, length-put, put-again}
 use Rattle.serve.specs.Sends.{sends}
-use Rattle.serve.specs.Slots.{held, left, settleSlot, settled, missed}
-use Rattle.serve.proofs.Stores.{mask-same, mask-other, mask-mask, put-comm}
+use Rattle.area.specs.Room.{held}
+use Rattle.settle.specs.Slots.{left, settleSlot, settled, missed}
+use Rattle.settle.proofs.Stores.{mask-same, mask-other, mask-mask, put-comm}
 use Rattle.serve.proofs.Grants.{Winner, winner, length-served}
 use Rattle.serve.proofs.Sending.{sends-left}
-use Rattle.serve.proofs.Settling.{count-mono, count-below, free-mask, length-giveBack, free-giveBack, giveBack-mask, mask-kept}
+use Rattle.settle.proofs.Settling.{count-below, free-mask, length-giveBack, free-giveBack, giveBack-mask, mask-kept}
 
 -- ---- the masks of the slots below k stored, as f says
 

@@ -1,6 +1,6 @@
 -- What the five ports send: the ports in a slot's sent mask and those left in it make its mask, and five packets fill the outgoing area. Assumes nothing.
 use Prim.Native.Nat.{ℕ, zero, suc, _+_, _-_, _*_, _%_, _^_, _<_, _≤_}
-use mathlib.Core.Path.{_≡_, refl, sym, ap, subst, _∙_}
+use mathlib.Core.Path.{_≡_, refl, ap, subst, _∙_}
 use mathlib.Core.Bool.{true}
 use mathlib.Core.List.{List, [], _∷_, _++_, append-nil}
 use native.Mathlib.Decide.{ℕ-discrete, decLt}
@@ -12,7 +12,7 @@ use Rattle.rules.specs.Board.{mask}
 use Rattle.rules.specs.Board8.{board8}
 use Rattle.rules.specs.Tick.{grant, grantBytes, sent, served}
 use Rattle.serve.specs.Sends.{marked, sends}
-use Rattle.serve.proofs.Stores.{mask-same, mask-other}
+use Rattle.settle.proofs.Stores.{mask-same, mask-other}
 use Rattle.serve.proofs.Grants.{Winner, winner, has-bit, without-has, length-served, grant-served}
 
 -- ---- a port's bit

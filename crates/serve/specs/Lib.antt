@@ -1,5 +1,1 @@
-pub mod Ranks
-pub mod Grants
 pub mod Sends
-pub mod Slots
-pub mod Counts

@@ -1,18 +1,16 @@
 // Steps 2 to 6 of a tick: each port's choice, the packets sent, withdrawal, the slots given back, the clock.
-mod choose;
 mod send;
-mod settle;
 
 ghost use mathlib.Core.Path.{_≡_};
 ghost use mathlib.Core.List.{[], _∷_};
-ghost use Prim.Native.Nat.{ℕ, _+_, _≤_};
+ghost use Prim.Native.Nat.{_+_, _≤_};
 ghost use lib.ListN.{length};
 ghost use Rattle.rules.specs.Indices.{count};
 ghost use Rattle.rules.specs.Areas.{perPort, grantCode};
 ghost use Rattle.rules.specs.Board.{free};
 ghost use Rattle.rules.specs.Board8.{board8};
 ghost use Rattle.rules.specs.Tick.{grant, grantBytes, served, withdrawals, withdrawn, returned, advanced};
-ghost use Rattle.serve.specs.Slots.{held};
+ghost use Rattle.area.specs.Room.{Room};
 use area::Field;
 use clock::ClockReading;
 
@@ -34,7 +32,7 @@ fn advance(state: &mut [u8])
 // Steps 2 to 6.
 pub fn serve_and_settle(state: &mut [u8], memory: &[u8], outgoing: &mut [u8], waiting: u8) -> Served
     requires lengths { ⌜ (length (now state) ≡ 1804) × (length (now memory) ≡ 5120) × (length (now outgoing) ≡ 100) ⌝ }
-    requires room { ⌜ board8 .get (now state) free + count 256 (held (now state)) ≤ 256 ⌝ }
+    requires room { ⌜ Room (now state) ⌝ }
     ensures ports { λ r. ⌜ r .codes ≡ perPort (λ p. grantCode (grant board8 (served board8 p waiting (now (state .entry))) waiting p) ∷ []) ⌝ }
     ensures packets { λ _. ⌜ now (outgoing .exit) ≡ perPort (λ p. grantBytes (now (memory .entry)) (grant board8 (served board8 p waiting (now (state .entry))) waiting p)) ⌝ }
     ensures withdrawn { λ r. ⌜ r .counts ≡ perPort (λ p. withdrawals board8 (served board8 5 waiting (now (state .entry))) p ∷ []) ⌝ }

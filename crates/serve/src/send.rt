@@ -7,13 +7,12 @@ ghost use lib.Seq.{sets};
 ghost use Rattle.rules.specs.Areas as Areas;
 ghost use Rattle.rules.specs.Board8.{board8};
 ghost use Rattle.rules.specs.Tick.{grant, grantBytes};
-ghost use Rattle.serve.specs.Ranks.{best, bests};
-ghost use Rattle.serve.specs.Grants.{the};
+ghost use Rattle.choose.specs.Ranks.{best, bests};
+ghost use Rattle.choose.specs.Grants.{the};
 ghost use Rattle.serve.specs.Sends.{marked, sends};
-use crate::choose;
-use crate::choose::Bests;
-use crate::choose::Grant;
 use area::SlotAddress;
+use choose::Bests;
+use choose::Grant;
 
 // A port's answer.
 fn code(g: Grant) -> u8

@@ -20,7 +20,10 @@ serve-requires : tie.Need-serve-requires
 serve-requires c κs = search needs
 
 settle-requires : tie.Need-settle-requires
-settle-requires c κs = ((c .before .before .before .before .before .before .before .before .before .before .before .before .before .before .before .pre .0 .0, c .before .before .before .before .before .before .before .before .before .before .end .ensures), (c .before .before .before .before .before .before .before .before .before .before .before .before .before .before .before .pre .1, fit _ _ (c .before .before .before .before .before .before .before .before .before .before .before .before .before .before .before .pre .0 .0) _ (c .before .before .before .before .serve .ensures .1 .1)))
+settle-requires c κs = let c₄ = c .before .before .before .before in
+    let c₁₀ = c₄ .before .before .before .before .before .before in
+    let c₁₅ = c₁₀ .before .before .before .before .before in
+    ((c₁₅ .pre .0 .0, c₁₀ .end .ensures), (c₁₅ .pre .1, fit _ _ (c₁₅ .pre .0 .0) _ (c₄ .serve .ensures .1 .1)))
 
 advance-requires : tie.Need-advance-requires
 advance-requires c κs = search needs
@@ -32,14 +35,18 @@ same-length-2 : tie.Need-same-length-2
 same-length-2 c = search needs
 
 returns : tie.Need-returns
-returns c = let s = c .before .before .before .before .before .before .before .before .before .before .before .before .before .before .before .before .before .before .before .before .before .before .args .state .now in
-    let w = c .before .before .before .before .before .before .before .before .before .before .before .before .before .before .before .before .before .before .before .before .before .before .args .waiting in
-    let z = c .before .before .before .before .before .before .before .before .before .before .before .before .before .before .before .before .before .before .before .before .before .before .pre .0 .0 in
-    let e = c .before .before .before .before .before .before .before .before .before .before .before .serve .ensures in (
+returns c = let c₂ = c .before .before in
+    let c₆ = c₂ .before .before .before .before in
+    let c₁₁ = c₆ .before .before .before .before .before in
+    let c₂₂ = c₁₁ .before .before .before .before .before .before .before .before .before .before .before in
+    let s = c₂₂ .args .state .now in
+    let w = c₂₂ .args .waiting in
+    let z = c₂₂ .pre .0 .0 in
+    let e = c₁₁ .serve .ensures in (
       e .0 ∙ ports-served (λ (g : Grant ℕ). grantCode g ∷ []) w s z,
       (
-        e .1 .0 ∙ ports-served (grantBytes (c .before .before .before .before .before .before .before .before .before .before .before .before .before .before .before .before .before .before .before .before .before .before .args .memory .now)) w s z,
-        (counted-is w s z _ (e .1 .1) _ (c .before .before .before .before .before .before .settle .ensures .0), advanced-is w s z _ (e .1 .1) (c .before .before .before .before .before .before .before .before .before .before .before .before .before .before .before .before .before .before .before .before .before .before .pre .1) _ _ (c .before .before .before .before .before .before .settle .ensures .1) (c .before .before .advance .ensures)),
+        e .1 .0 ∙ ports-served (grantBytes (c₂₂ .args .memory .now)) w s z,
+        (counted-is w s z _ (e .1 .1) _ (c₆ .settle .ensures .0), advanced-is w s z _ (e .1 .1) (c₂₂ .pre .1) _ _ (c₆ .settle .ensures .1) (c₂ .advance .ensures)),
       ),
     )
 

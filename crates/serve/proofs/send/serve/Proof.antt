@@ -4,9 +4,9 @@ use Rattle.rules.specs.Board8.{board8}
 use Rattle.rules.specs.Areas.{Grant, grantCode}
 use Rattle.rules.specs.Tick.{grant, grantBytes}
 use Prim.Native.Nat.{ℕ}
-use Rattle.serve.specs.declared.choose.Bests.{Bests}
+use Rattle.choose.specs.declared.Bests.{Bests}
 use Rattle.serve.specs.Sends.{sends}
-use mathlib.Core.Path.{_≡_, refl, ap, _∙_}
+use mathlib.Core.Path.{ap, _∙_}
 use borrow.Author.Needs.{needs}
 use native.Mathlib.Omega.{arith}
 use Rattle.serve.proofs.send.serve.Statement.{statement}
@@ -14,32 +14,53 @@ use Rattle.serve.proofs.send.serve.Tie as tie
 
 serve-port-requires : tie.Need-serve-port-requires
 unfolding sends
-serve-port-requires c κs = ((c .before .before .before .before .before .pre .0 .0, c .before .before .before .before .before .pre .0 .1), ((omega arith, ap (λ (b : Bests). b .p0) (c .before .before .before .before .before .pre .1 .0)), c .before .before .before .before .before .pre .1 .1))
+serve-port-requires c κs = let c₅ = c .before .before .before .before .before in
+    ((c₅ .pre .0 .0, c₅ .pre .0 .1), ((omega arith, ap (λ (b : Bests). b .p0) (c₅ .pre .1 .0)), c₅ .pre .1 .1))
 
 serve-port-requires-2 : tie.Need-serve-port-requires-2
-serve-port-requires-2 c κs = ((c .before .before .before .before .before .before .before .before .before .before .pre .0 .0, c .before .before .before .before .serve-port .kept .1 .1 .0 ∙ c .before .before .before .before .before .before .before .before .before .before .pre .0 .1), ((omega arith, ap (λ (b : Bests). b .p1) (c .before .before .before .before .before .before .before .before .before .before .pre .1 .0)), c .before .before .before .before .serve-port .ensures .1 .1))
+serve-port-requires-2 c κs = let c₄ = c .before .before .before .before in
+    let c₁₀ = c₄ .before .before .before .before .before .before in
+    ((c₁₀ .pre .0 .0, c₄ .serve-port .kept .1 .1 .0 ∙ c₁₀ .pre .0 .1), ((omega arith, ap (λ (b : Bests). b .p1) (c₁₀ .pre .1 .0)), c₄ .serve-port .ensures .1 .1))
 
 serve-port-requires-3 : tie.Need-serve-port-requires-3
-serve-port-requires-3 c κs = ((c .before .before .before .before .before .before .before .before .before .before .before .before .before .before .before .pre .0 .0, c .before .before .before .before .serve-port2 .kept .1 .1 .0 ∙ c .before .before .before .before .before .before .before .before .before .serve-port .kept .1 .1 .0 ∙ c .before .before .before .before .before .before .before .before .before .before .before .before .before .before .before .pre .0 .1), ((omega arith, ap (λ (b : Bests). b .p2) (c .before .before .before .before .before .before .before .before .before .before .before .before .before .before .before .pre .1 .0)), c .before .before .before .before .serve-port2 .ensures .1 .1))
+serve-port-requires-3 c κs = let c₄ = c .before .before .before .before in
+    let c₉ = c₄ .before .before .before .before .before in
+    let c₁₅ = c₉ .before .before .before .before .before .before in
+    ((c₁₅ .pre .0 .0, c₄ .serve-port2 .kept .1 .1 .0 ∙ c₉ .serve-port .kept .1 .1 .0 ∙ c₁₅ .pre .0 .1), ((omega arith, ap (λ (b : Bests). b .p2) (c₁₅ .pre .1 .0)), c₄ .serve-port2 .ensures .1 .1))
 
 serve-port-requires-4 : tie.Need-serve-port-requires-4
-serve-port-requires-4 c κs = ((c .before .before .before .before .before .before .before .before .before .before .before .before .before .before .before .before .before .before .before .before .pre .0 .0, c .before .before .before .before .serve-port3 .kept .1 .1 .0 ∙ c .before .before .before .before .before .before .before .before .before .serve-port2 .kept .1 .1 .0 ∙ c .before .before .before .before .before .before .before .before .before .before .before .before .before .before .serve-port .kept .1 .1 .0 ∙ c .before .before .before .before .before .before .before .before .before .before .before .before .before .before .before .before .before .before .before .before .pre .0 .1), ((omega arith, ap (λ (b : Bests). b .p3) (c .before .before .before .before .before .before .before .before .before .before .before .before .before .before .before .before .before .before .before .before .pre .1 .0)), c .before .before .before .before .serve-port3 .ensures .1 .1))
+serve-port-requires-4 c κs = let c₄ = c .before .before .before .before in
+    let c₉ = c₄ .before .before .before .before .before in
+    let c₁₄ = c₉ .before .before .before .before .before in
+    let c₂₀ = c₁₄ .before .before .before .before .before .before in
+    ((c₂₀ .pre .0 .0, c₄ .serve-port3 .kept .1 .1 .0 ∙ c₉ .serve-port2 .kept .1 .1 .0 ∙ c₁₄ .serve-port .kept .1 .1 .0 ∙ c₂₀ .pre .0 .1), ((omega arith, ap (λ (b : Bests). b .p3) (c₂₀ .pre .1 .0)), c₄ .serve-port3 .ensures .1 .1))
 
 serve-port-requires-5 : tie.Need-serve-port-requires-5
-serve-port-requires-5 c κs = ((c .before .before .before .before .before .before .before .before .before .before .before .before .before .before .before .before .before .before .before .before .before .before .before .before .before .pre .0 .0, c .before .before .before .before .serve-port4 .kept .1 .1 .0 ∙ c .before .before .before .before .before .before .before .before .before .serve-port3 .kept .1 .1 .0 ∙ c .before .before .before .before .before .before .before .before .before .before .before .before .before .before .serve-port2 .kept .1 .1 .0 ∙ c .before .before .before .before .before .before .before .before .before .before .before .before .before .before .before .before .before .before .before .serve-port .kept .1 .1 .0 ∙ c .before .before .before .before .before .before .before .before .before .before .before .before .before .before .before .before .before .before .before .before .before .before .before .before .before .pre .0 .1), ((omega arith, ap (λ (b : Bests). b .p4) (c .before .before .before .before .before .before .before .before .before .before .before .before .before .before .before .before .before .before .before .before .before .before .before .before .before .pre .1 .0)), c .before .before .before .before .serve-port4 .ensures .1 .1))
+serve-port-requires-5 c κs = let c₄ = c .before .before .before .before in
+    let c₉ = c₄ .before .before .before .before .before in
+    let c₁₄ = c₉ .before .before .before .before .before in
+    let c₁₉ = c₁₄ .before .before .before .before .before in
+    let c₂₅ = c₁₉ .before .before .before .before .before .before in
+    ((c₂₅ .pre .0 .0, c₄ .serve-port4 .kept .1 .1 .0 ∙ c₉ .serve-port3 .kept .1 .1 .0 ∙ c₁₄ .serve-port2 .kept .1 .1 .0 ∙ c₁₉ .serve-port .kept .1 .1 .0 ∙ c₂₅ .pre .0 .1), ((omega arith, ap (λ (b : Bests). b .p4) (c₂₅ .pre .1 .0)), c₄ .serve-port4 .ensures .1 .1))
 
 same-length : tie.Need-same-length
 same-length c = search needs
 
 returns : tie.Need-returns
-returns c = let s = c .before .before .before .before .before .before .before .before .before .before .before .before .before .before .before .before .before .before .before .before .before .before .before .before .before .before .before .before .args .state .now in
-    let w = c .before .before .before .before .before .before .before .before .before .before .before .before .before .before .before .before .before .before .before .before .before .before .before .before .before .before .before .before .args .waiting in
-    let m = c .before .before .before .before .before .before .before .before .before .before .before .before .before .before .before .before .before .before .before .before .before .before .before .before .before .before .before .before .args .memory .now in
+returns c = let c₂ = c .before .before in
+    let c₇ = c₂ .before .before .before .before .before in
+    let c₁₂ = c₇ .before .before .before .before .before in
+    let c₁₇ = c₁₂ .before .before .before .before .before in
+    let c₂₂ = c₁₇ .before .before .before .before .before in
+    let c₂₈ = c₂₂ .before .before .before .before .before .before in
+    let s = c₂₈ .args .state .now in
+    let w = c₂₈ .args .waiting in
+    let m = c₂₈ .args .memory .now in
     let g : ℕ → Grant ℕ = λ p. grant board8 s w p in (
-      numbers-five (λ p. grantCode (g p)) _ _ _ _ _ (c .before .before .before .before .before .before .before .before .before .before .before .before .before .before .before .before .before .before .before .before .before .before .serve-port .ensures .0) (c .before .before .before .before .before .before .before .before .before .before .before .before .before .before .before .before .before .serve-port2 .ensures .0) (c .before .before .before .before .before .before .before .before .before .before .before .before .serve-port3 .ensures .0) (c .before .before .before .before .before .before .before .serve-port4 .ensures .0) (c .before .before .serve-port5 .ensures .0),
+      numbers-five (λ p. grantCode (g p)) _ _ _ _ _ (c₂₂ .serve-port .ensures .0) (c₁₇ .serve-port2 .ensures .0) (c₁₂ .serve-port3 .ensures .0) (c₇ .serve-port4 .ensures .0) (c₂ .serve-port5 .ensures .0),
       (
-        packets-five (λ p. grantBytes m (g p)) (c .before .before .before .before .before .before .before .before .before .before .before .before .before .before .before .before .before .before .before .before .before .before .before .before .before .before .before .before .args .outgoing .now) (λ p. length-grantBytes m s w p (c .before .before .before .before .before .before .before .before .before .before .before .before .before .before .before .before .before .before .before .before .before .before .before .before .before .before .before .before .pre .0 .0)) (c .before .before .before .before .before .before .before .before .before .before .before .before .before .before .before .before .before .before .before .before .before .before .before .before .before .before .before .before .pre .0 .1) _ _ _ _ _ (c .before .before .before .before .before .before .before .before .before .before .before .before .before .before .before .before .before .before .before .before .before .before .serve-port .ensures .1 .0) (c .before .before .before .before .before .before .before .before .before .before .before .before .before .before .before .before .before .serve-port2 .ensures .1 .0) (c .before .before .before .before .before .before .before .before .before .before .before .before .serve-port3 .ensures .1 .0) (c .before .before .before .before .before .before .before .serve-port4 .ensures .1 .0) (c .before .before .serve-port5 .ensures .1 .0),
-        c .before .before .serve-port5 .ensures .1 .1,
+        packets-five (λ p. grantBytes m (g p)) (c₂₈ .args .outgoing .now) (λ p. length-grantBytes m s w p (c₂₈ .pre .0 .0)) (c₂₈ .pre .0 .1) _ _ _ _ _ (c₂₂ .serve-port .ensures .1 .0) (c₁₇ .serve-port2 .ensures .1 .0) (c₁₂ .serve-port3 .ensures .1 .0) (c₇ .serve-port4 .ensures .1 .0) (c₂ .serve-port5 .ensures .1 .0),
+        c₂ .serve-port5 .ensures .1 .1,
       ),
     )
 

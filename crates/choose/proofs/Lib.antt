@@ -1,0 +1,3 @@
+pub mod Empty
+mod Ranking
+mod Choice

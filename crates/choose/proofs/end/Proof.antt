@@ -1,0 +1,57 @@
+-- `choose::end` meets its contract. The loop's invariant: the slots from `e` on are empty. The measure is `e`. Assumes nothing.
+use Rattle.choose.proofs.Empty.{empty-less}
+use Rattle.choose.specs.Empty.{EmptyFrom}
+use mathlib.Core.Path.{sym, _∙_}
+use borrow.Author.Needs.{needs}
+use native.Mathlib.Omega.{arith}
+use Rattle.choose.proofs.end.Statement.{statement}
+use Rattle.choose.proofs.end.Tie as tie
+
+abbrev Inv-loop : tie.InvT-loop
+Inv-loop state e₀ e = EmptyFrom state e
+
+abbrev μ-loop : tie.MeasureT-loop
+μ-loop state e₀ e = e
+
+loop-holds : tie.Need-loop-holds Inv-loop μ-loop
+loop-holds c = (search needs, λ j l h. absurd (omega arith))
+
+sub-t5 : tie.Need-sub-t5 Inv-loop μ-loop
+sub-t5 c = search needs
+
+cast-t6 : tie.Need-cast-t6 Inv-loop μ-loop
+cast-t6 c = search needs
+
+get-requires : tie.Need-get-requires Inv-loop μ-loop
+get-requires c κs = search needs
+
+returns : tie.Need-returns Inv-loop μ-loop
+returns c = c .before .before .before .loop .inv
+
+sub-e : tie.Need-sub-e Inv-loop μ-loop
+sub-e c = search needs
+
+loop-less : tie.Need-loop-less Inv-loop μ-loop
+loop-less c = search needs
+
+loop-again : tie.Need-loop-again Inv-loop μ-loop
+loop-again c = empty-less _ _ (c .before .before .loop-test .taken) (c .before .before .before .loop .inv) (sym (c .before .get .ensures) ∙ c .if1 .left)
+
+returns-2 : tie.Need-returns-2 Inv-loop μ-loop
+returns-2 c = c .before .loop .inv
+
+pub end-spec : {M : Type 1} → statement M
+end-spec =
+    tie.close
+    (tie.spec
+    Inv-loop
+    μ-loop
+    loop-holds
+    sub-t5
+    cast-t6
+    get-requires
+    returns
+    sub-e
+    loop-less
+    loop-again
+    returns-2)

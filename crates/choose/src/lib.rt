@@ -1,0 +1,135 @@
+// Step 2 of a tick: one pass over the slots finds the winners of the five ports.
+ghost use mathlib.Core.Path.{_≡_};
+ghost use mathlib.Core.Bool.{cond, _&&_};
+ghost use Prim.Native.Nat.{suc, _<_};
+ghost use lib.Dec.{ltb};
+ghost use Rattle.rules.specs.Areas.{has};
+ghost use Rattle.rules.specs.Board.{clock};
+ghost use Rattle.rules.specs.Board8.{board8};
+ghost use Rattle.rules.specs.Tick.{grant};
+ghost use Rattle.choose.specs.Ranks as Ranks;
+ghost use Rattle.choose.specs.Grants.{the};
+ghost use Rattle.choose.specs.Empty.{EmptyFrom};
+use area::Field;
+use area::SlotAddress;
+use clock::ClockReading;
+
+// Where the ranks of early slots begin, and the rank of no slot.
+const EARLY: u32 = 65536;
+
+const NONE: u32 = 131072;
+
+// The least rank for each port.
+pub struct Bests {
+    pub p0: u32,
+    pub p1: u32,
+    pub p2: u32,
+    pub p3: u32,
+    pub p4: u32,
+}
+
+// Who has a port.
+pub enum Grant {
+    Nobody,
+    BestEffort,
+    OnTime(SlotAddress),
+    Early(SlotAddress),
+}
+
+// A slot's key and address as one number, the on-time ones first.
+fn rank(state: &[u8], t: ClockReading, s: SlotAddress) -> u32
+    ensures { λ r. ⌜ r ≡ Ranks.slotRank (now (state .entry)) (t .0) (s .0) ⌝ }
+{
+    let time = ClockReading(area::get(state, Field::Time(s)));
+    if clock::on_time(time, t) {
+        let deadline = ClockReading(area::get(state, Field::Deadline(s)));
+        return (clock::since(deadline, t) as u32) * 256 + s.0 as u32;
+    }
+    EARLY + (clock::since(time, t) as u32) * 256 + s.0 as u32
+}
+
+// The lesser rank, for a port that the mask has.
+fn better(mask: u8, port: u8, rank: u32, best: u32) -> u32
+    requires { ⌜ port < 5 ⌝ }
+    ensures { λ r. ⌜ r ≡ cond (has mask port && ltb rank best) rank best ⌝ }
+{
+    if !area::has_port(mask, port) {
+        return best;
+    }
+    if rank < best { rank } else { best }
+}
+
+// The least ranks, with slot s looked at.
+fn look(state: &[u8], t: ClockReading, s: SlotAddress, b: Bests) -> Bests
+    requires { ⌜ (t .0 ≡ board8 .get (now state) clock) × (b ≡ Ranks.bests (now state) (s .0)) ⌝ }
+    ensures { λ r. ⌜ r ≡ Ranks.bests (now (state .entry)) (suc (s .0)) ⌝ }
+{
+    let mask = area::get(state, Field::Mask(s));
+    if mask == 0 {
+        return b;
+    }
+    let r = rank(state, t, s);
+    Bests {
+        p0: better(mask, 0, r, b.p0),
+        p1: better(mask, 1, r, b.p1),
+        p2: better(mask, 2, r, b.p2),
+        p3: better(mask, 3, r, b.p3),
+        p4: better(mask, 4, r, b.p4),
+    }
+}
+
+// All slots from this one on are empty.
+pub fn end(state: &[u8]) -> usize
+    ensures { λ r. ⌜ EmptyFrom (now (state .entry)) r ⌝ }
+{
+    let mut e: usize = 256;
+    while 0 < e {
+        if area::get(state, Field::Mask(SlotAddress((e - 1) as u8))) != 0 {
+            return e;
+        }
+        e -= 1;
+    }
+    e
+}
+
+// The least ranks of all slots; those from `end` on are empty.
+pub fn scan(state: &[u8], end: usize) -> Bests
+    requires { ⌜ EmptyFrom (now state) end ⌝ }
+    ensures { λ r. ⌜ r ≡ Ranks.bests (now (state .entry)) 256 ⌝ }
+{
+    let t = ClockReading(area::get(state, Field::Clock));
+    let mut b = Bests {
+        p0: NONE,
+        p1: NONE,
+        p2: NONE,
+        p3: NONE,
+        p4: NONE,
+    };
+    let mut i: usize = 0;
+    while i < end {
+        b = look(state, t, SlotAddress(i as u8), b);
+        i += 1;
+    }
+    b
+}
+
+// Who has a port, by its least rank.
+pub fn choose(state: &[u8], waiting: u8, port: u8, best: u32) -> Grant
+    requires { ⌜ (port < 5) × (best ≡ Ranks.best (now state) 256 port) ⌝ }
+    ensures { λ r. ⌜ the r ≡ grant board8 (now (state .entry)) waiting port ⌝ }
+{
+    let slot = SlotAddress((best % 256) as u8);
+    if best < EARLY {
+        return Grant::OnTime(slot);
+    }
+    if area::has_port(waiting, port) {
+        return Grant::BestEffort;
+    }
+    if NONE <= best {
+        return Grant::Nobody;
+    }
+    if best / 256 - 256 <= area::get(state, Field::Horizon(port)) as u32 {
+        return Grant::Early(slot);
+    }
+    Grant::Nobody
+}
