@@ -10,12 +10,13 @@ use Rattle.rules.specs.Control as C
 use Rattle.rules.specs.Tick as B
 use Rattle.rules.specs.Questions as Q
 use Rattle.rules.specs.Whole as W
+use Rattle.cases.specs.Rows as R
 use Rattle.cases.specs.Table as S
 use Rattle.cases.specs.Table.{Meets, AllMeet, Cases}
 
 -- Every definition that a row computes with unfolds where this one does.
 computing : ℕ
-unfolding K.cut K.plus K.minus K.signed K.offset I.better I.least I.counted I.count I.topFirst A.low A.bits A.value A.digits A.packet A.stamp A.payload A.packed A.has A.without A.perPort A.grantCode A.answersArea A.elem F.getAt F.putAt E.fresh8 C.commitHorizon C.written Q.fresh B.granted B.grantBytes B.arrival B.placed B.arrived B.onTimeKey B.earlyKey B.grant B.sent B.served B.withdrawals B.ticked W.put W.rising W.start W.settings W.placed W.admitted W.waiting W.filter W.granted W.byDeadline W.byTime W.grant W.lose W.sent W.served W.isDue W.due W.withdrawn W.arrival W.arrivals W.ticked W.packetBytes W.grantBytes W.outgoingBytes W.arrivalCode S.sample S.arrivals S.arrivedAs S.storedAs S.others S.idleStack S.freeList S.isTrue S.opened S.filled S.stacked S.before S.whole S.arrived S.onBytes S.portOnBytes S.openedWhole S.filledWhole S.beforeWhole S.byteDeadline S.keyIf S.slotOf S.onWhole S.portOnWhole
+unfolding K.cut K.plus K.minus K.signed K.offset I.better I.least I.counted I.count I.topFirst A.low A.bits A.value A.digits A.packet A.stamp A.payload A.packed A.has A.without A.perPort A.grantCode A.answersArea A.elem F.getAt F.putAt E.fresh8 C.commitHorizon C.written Q.fresh B.granted B.grantBytes B.arrival B.placed B.arrived B.onTimeKey B.earlyKey B.grant B.sent B.served B.withdrawals B.ticked W.put W.rising W.start W.settings W.placed W.admitted W.waiting W.filter W.granted W.byDeadline W.byTime W.grant W.lose W.sent W.served W.isDue W.due W.withdrawn W.arrival W.arrivals W.ticked W.packetBytes W.grantBytes W.outgoingBytes W.arrivalCode R.sample R.arrivals R.arrivedAs R.storedAs R.others R.idleStack R.freeList R.isTrue R.opened R.filled R.stacked R.before R.whole R.arrived R.onBytes R.portOnBytes R.openedWhole R.filledWhole R.beforeWhole R.byteDeadline R.keyIf R.slotOf R.onWhole R.portOnWhole
 computing = 0
 
 horizon96 : Meets S.horizon96

@@ -1,0 +1,290 @@
+/*
+ * bench.c - runs the router and the plain implementation (gcc -O2 and -O3) through like calls; bench.sh makes the
+ * table from it.
+ *   bench count IMPLEMENTATION SCENARIO REPEATS   repeats the call, for an instruction count from outside
+ *   bench wall                                    prints nanoseconds per call, the implementations alternating
+ *   bench stack                                   prints the bytes of stack that a call writes
+ *   bench names                                   prints the scenarios
+ */
+#define _DEFAULT_SOURCE
+
+#include <stdio.h>
+#include <stdlib.h>
+#include <string.h>
+#include <time.h>
+#include <ucontext.h>
+
+#include "router.h"
+
+#define DECLARE(prefix)                                                                                              \
+    uint8_t prefix##_fresh(uint8_t *, size_t, uint8_t *, size_t, uint8_t);                                           \
+    uint8_t prefix##_control(uint8_t *, size_t, const uint8_t *, size_t, uint8_t, uint8_t);                          \
+    uint8_t prefix##_tick(uint8_t *, size_t, uint8_t *, size_t, const uint8_t *, size_t, uint8_t *, size_t,          \
+                          uint8_t *, size_t, uint8_t, uint8_t)
+DECLARE(plain_o2);
+DECLARE(plain_o3);
+
+/* Stands in for an implementation, to measure what the bench itself takes. */
+static uint8_t none_fresh(uint8_t *state, size_t state_len, uint8_t *memory, size_t memory_len, uint8_t clock)
+{
+    (void)state, (void)state_len, (void)memory, (void)memory_len, (void)clock;
+    return ROUTER_ACCEPTED;
+}
+
+static uint8_t none_control(uint8_t *state, size_t state_len, const uint8_t *memory, size_t memory_len,
+                            uint8_t reg, uint8_t value)
+{
+    (void)state, (void)state_len, (void)memory, (void)memory_len, (void)reg, (void)value;
+    return ROUTER_ACCEPTED;
+}
+
+static uint8_t none_tick(uint8_t *state, size_t state_len, uint8_t *memory, size_t memory_len,
+                         const uint8_t *arrivals, size_t arrivals_len, uint8_t *outgoing, size_t outgoing_len,
+                         uint8_t *answers, size_t answers_len, uint8_t arrivals_mask, uint8_t best_effort_mask)
+{
+    (void)state, (void)state_len, (void)memory, (void)memory_len, (void)arrivals, (void)arrivals_len;
+    (void)outgoing, (void)outgoing_len, (void)answers, (void)answers_len, (void)arrivals_mask;
+    (void)best_effort_mask;
+    return ROUTER_ACCEPTED;
+}
+
+struct implementation {
+    const char *name;
+    uint8_t (*fresh)(uint8_t *, size_t, uint8_t *, size_t, uint8_t);
+    uint8_t (*control)(uint8_t *, size_t, const uint8_t *, size_t, uint8_t, uint8_t);
+    uint8_t (*tick)(uint8_t *, size_t, uint8_t *, size_t, const uint8_t *, size_t, uint8_t *, size_t,
+                    uint8_t *, size_t, uint8_t, uint8_t);
+};
+
+static const struct implementation implementations[] = {
+    {"none", none_fresh, none_control, none_tick},
+    {"ours", router_fresh, router_control, router_tick},
+    {"O2", plain_o2_fresh, plain_o2_control, plain_o2_tick},
+    {"O3", plain_o3_fresh, plain_o3_control, plain_o3_tick},
+};
+#define IMPLEMENTATIONS (sizeof implementations / sizeof *implementations)
+
+enum kind { FRESH, CONTROL, IDLE, BUSY };
+
+struct scenario {
+    const char *name;
+    enum kind kind;
+    unsigned stored; /* packets in memory before the call */
+};
+
+/* A busy tick brings five packets and sends five; with 251 before, 256 are stored when the ports choose. */
+static const struct scenario scenarios[] = {
+    {"fresh", FRESH, 0},        {"control-0", CONTROL, 0},   {"control-256", CONTROL, 256},
+    {"tick-0-idle", IDLE, 0},   {"tick-64-idle", IDLE, 64},  {"tick-256-idle", IDLE, 256},
+    {"tick-0-busy", BUSY, 0},   {"tick-64-busy", BUSY, 64},  {"tick-251-busy", BUSY, 251},
+};
+#define SCENARIOS (sizeof scenarios / sizeof *scenarios)
+
+#define CLOCK 240
+#define DELAY 40
+#define LAXITY 20      /* on-time packets have 1 to LAXITY ticks to their deadline */
+#define AHEAD 100      /* early packets are 1 to AHEAD ticks early */
+#define CONNECTION 7   /* the entry that the control write commits; that of port p is CONNECTION + p */
+
+static uint8_t state[ROUTER_STATE_LEN], memory[ROUTER_MEMORY_LEN];
+static uint8_t arrivals[ROUTER_ARRIVALS_LEN], outgoing[ROUTER_OUTGOING_LEN], answers[ROUTER_ANSWERS_LEN];
+static uint8_t first_state[ROUTER_STATE_LEN], first_memory[ROUTER_MEMORY_LEN];
+
+/* Stores packet s as the next one: early in an idle scenario, by turns early and on time in a busy one. */
+static void store(enum kind kind, unsigned s)
+{
+    uint8_t *slot = first_state + ROUTER_STATE_SLOTS + ROUTER_SLOT_LEN * s;
+    uint8_t deadline;
+
+    if (kind == BUSY && s % 2 == 0)
+        deadline = (uint8_t)(CLOCK + 1 + s % LAXITY);
+    else
+        deadline = (uint8_t)(CLOCK + 1 + s % AHEAD + DELAY);
+    slot[ROUTER_SLOT_TIME] = (uint8_t)(deadline - DELAY);
+    slot[ROUTER_SLOT_DEADLINE] = deadline;
+    slot[ROUTER_SLOT_MASK] = (uint8_t)(1u << s % ROUTER_PORTS);
+    first_memory[ROUTER_PACKET_LEN * s + ROUTER_PACKET_TIME] = deadline;
+}
+
+/* Makes the areas as they are before each call of a scenario. */
+static void prepare(const struct scenario *scenario)
+{
+    plain_o2_fresh(first_state, sizeof first_state, first_memory, sizeof first_memory, CLOCK);
+    for (unsigned s = 0; s < scenario->stored; s++)
+        store(scenario->kind, s);
+    first_state[ROUTER_STATE_FREE] = (uint8_t)((ROUTER_SLOTS - scenario->stored) >> 8);
+    first_state[ROUTER_STATE_FREE + 1] = (uint8_t)(ROUTER_SLOTS - scenario->stored);
+    for (unsigned p = 0; p < ROUTER_PORTS; p++) {
+        uint8_t *entry = first_state + ROUTER_STATE_TABLE + ROUTER_ENTRY_LEN * (CONNECTION + p);
+
+        entry[ROUTER_ENTRY_OUT_ID] = (uint8_t)p;
+        entry[ROUTER_ENTRY_DELAY] = DELAY;
+        entry[ROUTER_ENTRY_MASK] = (uint8_t)(1u << p);
+        arrivals[ROUTER_PACKET_LEN * p + ROUTER_PACKET_ID] = (uint8_t)(CONNECTION + p);
+        arrivals[ROUTER_PACKET_LEN * p + ROUTER_PACKET_TIME] = CLOCK;
+    }
+}
+
+static uint8_t call(const struct implementation *router, const struct scenario *scenario)
+{
+    switch (scenario->kind) {
+    case FRESH:
+        return router->fresh(state, sizeof state, memory, sizeof memory, CLOCK);
+    case CONTROL:
+        return router->control(state, sizeof state, memory, sizeof memory, ROUTER_REG_IN_ID, CONNECTION);
+    default:
+        return router->tick(state, sizeof state, memory, sizeof memory, arrivals, sizeof arrivals,
+                            outgoing, sizeof outgoing, answers, sizeof answers,
+                            scenario->kind == BUSY ? ROUTER_MASK_MAX : 0, 0);
+    }
+}
+
+/* One call from the prepared areas; the copying is measured alone with "none" and taken off. */
+static void step(const struct implementation *router, const struct scenario *scenario)
+{
+    memcpy(state, first_state, sizeof state);
+    memcpy(memory, first_memory, sizeof memory);
+    if (call(router, scenario) != ROUTER_ACCEPTED) {
+        fprintf(stderr, "bench: %s refuses %s\n", router->name, scenario->name);
+        exit(EXIT_FAILURE);
+    }
+}
+
+/* A busy tick stores five and sends five; an idle one neither. So the figures mean what the scenario says. */
+static void check(const struct implementation *router, const struct scenario *scenario)
+{
+    uint8_t busy = scenario->kind == BUSY;
+
+    step(router, scenario);
+    if (router == implementations || (scenario->kind != BUSY && scenario->kind != IDLE))
+        return;
+    for (unsigned p = 0; p < ROUTER_PORTS; p++) {
+        if (answers[ROUTER_ANSWERS_PORTS + p] != (busy ? ROUTER_PORT_ON_TIME : ROUTER_PORT_IDLE) ||
+            answers[ROUTER_ANSWERS_ARRIVALS + p] != (busy ? ROUTER_ARRIVAL_STORED : ROUTER_ARRIVAL_NONE)) {
+            fprintf(stderr, "bench: %s has other answers in %s\n", router->name, scenario->name);
+            exit(EXIT_FAILURE);
+        }
+    }
+}
+
+static double now(void)
+{
+    struct timespec time;
+
+    clock_gettime(CLOCK_MONOTONIC, &time);
+    return (double)time.tv_sec * 1e9 + (double)time.tv_nsec;
+}
+
+/* The least time per call of several rounds; the implementations take turns within a round. */
+static void wall(void)
+{
+    enum { ROUNDS = 40, CALLS = 200 };
+
+    for (unsigned s = 0; s < SCENARIOS; s++) {
+        double least[IMPLEMENTATIONS] = {0};
+
+        prepare(&scenarios[s]);
+        for (unsigned round = 0; round < ROUNDS; round++) {
+            for (unsigned i = 0; i < IMPLEMENTATIONS; i++) {
+                double start = now(), taken;
+
+                for (unsigned c = 0; c < CALLS; c++)
+                    step(&implementations[i], &scenarios[s]);
+                taken = (now() - start) / CALLS;
+                if (round == 0 || taken < least[i])
+                    least[i] = taken;
+            }
+        }
+        for (unsigned i = 1; i < IMPLEMENTATIONS; i++)
+            printf("%s %s %.0f\n", implementations[i].name, scenarios[s].name, least[i] - least[0]);
+    }
+}
+
+static uint8_t painted[1 << 16];
+static ucontext_t caller, painted_context;
+static const struct implementation *stack_router;
+static const struct scenario *stack_scenario;
+
+static void call_on_painted(void)
+{
+    call(stack_router, stack_scenario);
+}
+
+/* The bytes from the top of a painted stack down to the deepest one that a call changed. */
+static size_t depth(const struct implementation *router, const struct scenario *scenario, int paint)
+{
+    size_t intact = 0;
+
+    prepare(scenario);
+    step(router, scenario);
+    memcpy(state, first_state, sizeof state);
+    memcpy(memory, first_memory, sizeof memory);
+    stack_router = router;
+    stack_scenario = scenario;
+    memset(painted, paint, sizeof painted);
+    getcontext(&painted_context);
+    painted_context.uc_stack.ss_sp = painted;
+    painted_context.uc_stack.ss_size = sizeof painted;
+    painted_context.uc_link = &caller;
+    makecontext(&painted_context, call_on_painted, 0);
+    swapcontext(&caller, &painted_context);
+    while (intact < sizeof painted && painted[intact] == paint)
+        intact++;
+    return sizeof painted - intact;
+}
+
+static size_t deepest(const struct implementation *router, const struct scenario *scenario)
+{
+    size_t one = depth(router, scenario, 0xA5), other = depth(router, scenario, 0x5A);
+
+    return one > other ? one : other;
+}
+
+static void stack(void)
+{
+    for (unsigned s = 0; s < SCENARIOS; s++) {
+        size_t none = deepest(&implementations[0], &scenarios[s]);
+
+        for (unsigned i = 1; i < IMPLEMENTATIONS; i++)
+            printf("%s %s %zu\n", implementations[i].name, scenarios[s].name,
+                   deepest(&implementations[i], &scenarios[s]) - none);
+    }
+}
+
+static int count(const char *implementation, const char *scenario, long repeats)
+{
+    for (unsigned i = 0; i < IMPLEMENTATIONS; i++) {
+        for (unsigned s = 0; s < SCENARIOS; s++) {
+            if (strcmp(implementation, implementations[i].name) != 0 || strcmp(scenario, scenarios[s].name) != 0)
+                continue;
+            prepare(&scenarios[s]);
+            check(&implementations[i], &scenarios[s]);
+            for (long r = 0; r < repeats; r++)
+                step(&implementations[i], &scenarios[s]);
+            return EXIT_SUCCESS;
+        }
+    }
+    fprintf(stderr, "bench: no such implementation or scenario\n");
+    return EXIT_FAILURE;
+}
+
+int main(int argc, char **argv)
+{
+    if (argc == 5 && strcmp(argv[1], "count") == 0)
+        return count(argv[2], argv[3], strtol(argv[4], NULL, 10));
+    if (argc == 2 && strcmp(argv[1], "wall") == 0) {
+        wall();
+        return EXIT_SUCCESS;
+    }
+    if (argc == 2 && strcmp(argv[1], "stack") == 0) {
+        stack();
+        return EXIT_SUCCESS;
+    }
+    if (argc == 2 && strcmp(argv[1], "names") == 0) {
+        for (unsigned s = 0; s < SCENARIOS; s++)
+            puts(scenarios[s].name);
+        return EXIT_SUCCESS;
+    }
+    fprintf(stderr, "usage: bench count IMPLEMENTATION SCENARIO REPEATS | wall | stack | names\n");
+    return EXIT_FAILURE;
+}

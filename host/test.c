@@ -1,0 +1,1486 @@
+/*
+ * test.c - compares the router (router_*, from an archive) with the plain implementation, byte for byte over all
+ * areas and numbers, and with the router that never turns over; then runs the experiment of document 001, Fig. 10.
+ *   test [SEED]
+ * Each area lies against inaccessible pages, by turns at its start and at its end, and areas that a call only reads
+ * are lent read-only, so that a stray access is seen.
+ */
+#define _DEFAULT_SOURCE
+
+#include <inttypes.h>
+#include <setjmp.h>
+#include <signal.h>
+#include <stdarg.h>
+#include <stdio.h>
+#include <stdlib.h>
+#include <string.h>
+#include <sys/mman.h>
+#include <time.h>
+#include <unistd.h>
+
+#include "plain.h"
+#include "whole.h"
+
+#define DEFAULT_SEED 1
+#define EVOLVING_CALLS 2000000u
+#define MADE_CALLS 800000u
+#define DAMAGED_CALLS 800000u
+#define WHOLE_TICKS 1200000u
+
+/* ---- Random numbers ---- */
+
+static uint64_t seed, random_state;
+
+static uint64_t next_random(void)
+{
+    uint64_t z = random_state += UINT64_C(0x9E3779B97F4A7C15);
+
+    z = (z ^ z >> 30) * UINT64_C(0xBF58476D1CE4E5B9);
+    z = (z ^ z >> 27) * UINT64_C(0x94D049BB133111EB);
+    return z ^ z >> 31;
+}
+
+static unsigned below(unsigned limit)
+{
+    return (unsigned)((next_random() >> 32) * limit >> 32);
+}
+
+static int between(int low, int high)
+{
+    return low + (int)below((unsigned)(high - low + 1));
+}
+
+static int chance(unsigned percent)
+{
+    return below(100) < percent;
+}
+
+static uint8_t random_byte(void)
+{
+    return (uint8_t)below(256);
+}
+
+static void random_bytes(uint8_t *bytes, size_t len)
+{
+    for (size_t i = 0; i < len; i++)
+        bytes[i] = random_byte();
+}
+
+/* ---- Sections: each ends at its end or at its first failure ---- */
+
+static sigjmp_buf section_end;
+static unsigned passed, failed;
+static unsigned long calls; /* of the router under test */
+
+static void fail(const char *format, ...)
+{
+    va_list list;
+
+    printf("     call %lu, seed %" PRIu64 ": ", calls, seed);
+    va_start(list, format);
+    vprintf(format, list);
+    va_end(list);
+    printf("\n");
+    siglongjmp(section_end, 1);
+}
+
+static void section(const char *name, void (*run)(void))
+{
+    clock_t start = clock();
+    unsigned long first = calls;
+    int ok = sigsetjmp(section_end, 1) == 0;
+
+    if (ok) {
+        random_state = seed * 1000 + passed + failed;
+        run();
+    }
+    if (ok)
+        passed++;
+    else
+        failed++;
+    printf("%s %-46s %8lu calls %5.1f s\n", ok ? "ok  " : "FAIL", name, calls - first,
+           (double)(clock() - start) / CLOCKS_PER_SEC);
+    fflush(stdout);
+}
+
+/* ---- What has to occur ---- */
+
+enum event {
+    FRESH_0, FRESH_1,
+    CONTROL_0, CONTROL_1, CONTROL_2, CONTROL_4, CONTROL_5,
+    TICK_0, TICK_1, TICK_2, TICK_3,
+    ARRIVAL_0, ARRIVAL_1, ARRIVAL_6, ARRIVAL_7, ARRIVAL_8,
+    PORT_0, PORT_1, PORT_2, PORT_3,
+    WITHDRAWN, WITHDRAWN_255, MULTICAST_STORED, MULTICAST_AT_ONCE, MULTICAST_IN_PART, SEVERAL_EMPTIED,
+    STORED_256, FULL_AND_FREED, CLOCK_TURN, EQUAL_KEYS, HELD_BACK,
+    WHOLE_TICK, WHOLE_REFUSED, WHOLE_TURN, WHOLE_BELOW_ZERO, FATE_ON_TIME, FATE_EARLY, FATE_WITHDRAWN,
+    EVENTS
+};
+
+static const char *const event_name[EVENTS] = {
+    "fresh: 0 accepted", "fresh: 1 length",
+    "control: 0 accepted", "control: 1 length", "control: 2 not sound", "control: 4 register", "control: 5 value",
+    "tick: 0 accepted", "tick: 1 length", "tick: 2 not sound", "tick: 3 mask",
+    "arrival: 0 none", "arrival: 1 stored", "arrival: 6 closed", "arrival: 7 late", "arrival: 8 full",
+    "port: 0 idle", "port: 1 on time", "port: 2 best-effort", "port: 3 early",
+    "packet withdrawn", "255 withdrawn on a port in a tick", "multicast packet stored",
+    "multicast: several ports in one tick", "multicast: some ports served, others left",
+    "several slots emptied in one tick",
+    "256 stored", "arrival gets 8 in a tick that frees a slot", "clock turn", "equal keys (in the ticks sampled)",
+    "best-effort before an early packet (sampled)",
+    "whole: tick accepted", "whole: call refused", "whole: clock turn", "whole: time below zero",
+    "fate: sent on time", "fate: sent early", "fate: withdrawn in its deadline tick",
+};
+
+static unsigned long occurred[EVENTS];
+
+static const enum event number_event[3][6] = {
+    {FRESH_0, FRESH_1, EVENTS, EVENTS, EVENTS, EVENTS},
+    {CONTROL_0, CONTROL_1, CONTROL_2, EVENTS, CONTROL_4, CONTROL_5},
+    {TICK_0, TICK_1, TICK_2, TICK_3, EVENTS, EVENTS},
+};
+
+/* ---- Areas ---- */
+
+enum area { STATE, MEMORY, ARRIVALS, OUTGOING, ANSWERS, AREAS };
+
+static const char *const area_name[AREAS] = {"state", "memory", "arrivals", "outgoing", "answers"};
+static const size_t area_len[AREAS] = {
+    ROUTER_STATE_LEN, ROUTER_MEMORY_LEN, ROUTER_ARRIVALS_LEN, ROUTER_OUTGOING_LEN, ROUTER_ANSWERS_LEN,
+};
+
+#define PAGE 4096
+#define ROOM (3 * PAGE)
+
+/* The areas of the plain implementation, as they were before the call, and a sound router to come back to. */
+static uint8_t area[AREAS][ROOM], before[AREAS][ROOM], kept[2][ROOM];
+static uint8_t *const state = area[STATE], *const memory = area[MEMORY], *const answers = area[ANSWERS];
+
+/* The room for an area of the router: two views of the same pages, with an inaccessible page at both ends. */
+struct guarded {
+    uint8_t *writable, *readable;
+    const uint8_t *lent; /* where the area of the current call starts */
+};
+static struct guarded guarded[AREAS];
+
+static uint8_t *map_view(int file, int access)
+{
+    uint8_t *all = mmap(NULL, ROOM + 2 * PAGE, PROT_NONE, MAP_PRIVATE | MAP_ANONYMOUS, -1, 0);
+
+    if (all == MAP_FAILED || mmap(all + PAGE, ROOM, access, MAP_SHARED | MAP_FIXED, file, 0) == MAP_FAILED) {
+        perror("mmap");
+        exit(EXIT_FAILURE);
+    }
+    return all + PAGE;
+}
+
+static void map_areas(void)
+{
+    if (PAGE % sysconf(_SC_PAGESIZE) != 0) {
+        fprintf(stderr, "test: pages are not of %d bytes\n", PAGE);
+        exit(EXIT_FAILURE);
+    }
+    for (unsigned i = 0; i < AREAS; i++) {
+        FILE *file = tmpfile();
+
+        if (file == NULL || ftruncate(fileno(file), ROOM) != 0) {
+            perror("tmpfile");
+            exit(EXIT_FAILURE);
+        }
+        guarded[i].writable = map_view(fileno(file), PROT_READ | PROT_WRITE);
+        guarded[i].readable = map_view(fileno(file), PROT_READ);
+        fclose(file);
+    }
+}
+
+/* Says where a stray access went, and ends the section. */
+static void on_fault(int signal, siginfo_t *info, void *context)
+{
+    const uint8_t *at = info->si_addr;
+
+    (void)signal, (void)context;
+    for (unsigned i = 0; i < AREAS; i++) {
+        const uint8_t *view[2] = {guarded[i].writable, guarded[i].readable};
+
+        for (unsigned v = 0; v < 2; v++) {
+            if (at >= view[v] - PAGE && at < view[v] + ROOM + PAGE)
+                fail("stray access to %s at %td%s", area_name[i], at - guarded[i].lent,
+                     v == 1 ? ", which is only to be read" : "");
+        }
+    }
+    fail("stray access outside all areas");
+}
+
+/* ---- A call of both routers ---- */
+
+enum entry { FRESH, CONTROL, TICK };
+static const char *const entry_name[] = {"fresh", "control", "tick"};
+
+struct call {
+    enum entry entry;
+    size_t len[AREAS];
+    uint8_t first, second; /* clock; register and value; arrivals and best-effort mask */
+};
+
+static unsigned areas_lent(enum entry entry)
+{
+    return entry == TICK ? AREAS : 2;
+}
+
+/* Places an area of the router and fills it; it gets the read-only view where the entry only reads. */
+static uint8_t *lend(enum entry entry, enum area i, const uint8_t *bytes, size_t len, int at_end)
+{
+    size_t at = at_end ? ROOM - len : 0;
+    int only_read = i == ARRIVALS || (entry == CONTROL && i == MEMORY);
+    uint8_t *lent = (only_read ? guarded[i].readable : guarded[i].writable) + at;
+
+    memcpy(guarded[i].writable + at, bytes, len);
+    guarded[i].lent = lent;
+    return lent;
+}
+
+static uint8_t call_plain(const struct call *c)
+{
+    switch (c->entry) {
+    case FRESH:
+        return plain_fresh(area[0], c->len[0], area[1], c->len[1], c->first);
+    case CONTROL:
+        return plain_control(area[0], c->len[0], area[1], c->len[1], c->first, c->second);
+    default:
+        return plain_tick(area[0], c->len[0], area[1], c->len[1], area[2], c->len[2], area[3], c->len[3],
+                          area[4], c->len[4], c->first, c->second);
+    }
+}
+
+static uint8_t call_router(const struct call *c, uint8_t *const *lent)
+{
+    calls++;
+    switch (c->entry) {
+    case FRESH:
+        return router_fresh(lent[0], c->len[0], lent[1], c->len[1], c->first);
+    case CONTROL:
+        return router_control(lent[0], c->len[0], lent[1], c->len[1], c->first, c->second);
+    default:
+        return router_tick(lent[0], c->len[0], lent[1], c->len[1], lent[2], c->len[2], lent[3], c->len[3],
+                           lent[4], c->len[4], c->first, c->second);
+    }
+}
+
+static unsigned free_count(const uint8_t *bytes)
+{
+    return bytes[ROUTER_STATE_FREE] * 256u + bytes[ROUTER_STATE_FREE + 1];
+}
+
+static void set_free_count(unsigned n)
+{
+    state[ROUTER_STATE_FREE] = (uint8_t)(n / 256);
+    state[ROUTER_STATE_FREE + 1] = (uint8_t)(n % 256);
+}
+
+static uint8_t *slot_at(uint8_t *bytes, unsigned s)
+{
+    return bytes + ROUTER_STATE_SLOTS + ROUTER_SLOT_LEN * s;
+}
+
+static uint8_t *entry_at(uint8_t *bytes, unsigned connection)
+{
+    return bytes + ROUTER_STATE_TABLE + ROUTER_ENTRY_LEN * connection;
+}
+
+static uint8_t *stored_at(unsigned s)
+{
+    return memory + ROUTER_PACKET_LEN * s;
+}
+
+static uint8_t *arrival_at(unsigned port)
+{
+    return area[ARRIVALS] + ROUTER_PACKET_LEN * port;
+}
+
+static unsigned withdrawn_at(const uint8_t *bytes, unsigned port)
+{
+    return bytes[ROUTER_ANSWERS_WITHDRAWN + 2 * port] * 256u + bytes[ROUTER_ANSWERS_WITHDRAWN + 2 * port + 1];
+}
+
+static int several(unsigned mask)
+{
+    return (mask & (mask - 1)) != 0;
+}
+
+#define EARLY_KEYS 128u  /* keys below are of packets on time */
+#define CONTEST_SAMPLE 16 /* one call in so many is looked at */
+
+/* Counts, for the packets stored before the tick, equal best keys and best-effort before an early packet. */
+static void count_contests(void)
+{
+    uint8_t t = before[STATE][ROUTER_STATE_CLOCK];
+
+    for (unsigned p = 0; p < ROUTER_PORTS; p++) {
+        unsigned best = 2 * EARLY_KEYS, equal = 0;
+
+        for (unsigned s = 0; s < ROUTER_SLOTS; s++) {
+            const uint8_t *slot = slot_at(before[STATE], s);
+            unsigned ahead = (uint8_t)(slot[ROUTER_SLOT_TIME] - t);
+            unsigned key = ahead >= 1 && ahead <= 127 ? EARLY_KEYS + ahead
+                                                      : (uint8_t)(slot[ROUTER_SLOT_DEADLINE] - t);
+
+            if (!(slot[ROUTER_SLOT_MASK] >> p & 1) || key > best)
+                continue;
+            equal = key == best;
+            best = key;
+        }
+        occurred[EQUAL_KEYS] += equal;
+        occurred[HELD_BACK] += answers[ROUTER_ANSWERS_PORTS + p] == ROUTER_PORT_BEST_EFFORT &&
+                               best <= EARLY_KEYS + before[STATE][ROUTER_STATE_HORIZONS + p];
+    }
+}
+
+/* Counts what an accepted tick did. */
+static void count_tick(void)
+{
+    static const enum event arrival_event[9] = {ARRIVAL_0, ARRIVAL_1, EVENTS,    EVENTS,   EVENTS,
+                                                EVENTS,    ARRIVAL_6, ARRIVAL_7, ARRIVAL_8};
+    unsigned emptied = 0, full = 0, n = free_count(state);
+    uint8_t t = before[STATE][ROUTER_STATE_CLOCK];
+
+    for (unsigned p = 0; p < ROUTER_PORTS; p++) {
+        uint8_t code = answers[ROUTER_ANSWERS_PORTS + p], arrival = answers[ROUTER_ANSWERS_ARRIVALS + p];
+        unsigned withdrawn = withdrawn_at(answers, p);
+
+        if (code > ROUTER_PORT_EARLY || arrival > ROUTER_ARRIVAL_FULL || arrival_event[arrival] == EVENTS)
+            fail("port %u has code %u, arrival %u", p, code, arrival);
+        occurred[PORT_0 + code]++;
+        occurred[arrival_event[arrival]]++;
+        occurred[WITHDRAWN] += withdrawn;
+        occurred[WITHDRAWN_255] += withdrawn == 255;
+        full |= arrival == ROUTER_ARRIVAL_FULL;
+        if (arrival == ROUTER_ARRIVAL_STORED)
+            occurred[MULTICAST_STORED] +=
+                several(entry_at(state, arrival_at(p)[ROUTER_PACKET_ID])[ROUTER_ENTRY_MASK]);
+    }
+    for (unsigned s = 0; s < ROUTER_SLOTS; s++) {
+        const uint8_t *slot = slot_at(state, s);
+        unsigned was = slot_at(before[STATE], s)[ROUTER_SLOT_MASK], is = slot[ROUTER_SLOT_MASK];
+
+        if (was == is)
+            continue;
+        emptied += is == 0;
+        occurred[MULTICAST_IN_PART] += was != 0 && is != 0;
+        occurred[MULTICAST_AT_ONCE] += several(was & ~is) && slot[ROUTER_SLOT_DEADLINE] != t;
+    }
+    occurred[SEVERAL_EMPTIED] += emptied > 1;
+    occurred[STORED_256] += n == 0;
+    occurred[FULL_AND_FREED] += full && n > 0;
+    occurred[CLOCK_TURN] += t == 255;
+}
+
+static void differs(const struct call *c, enum area i, const uint8_t *got, const uint8_t *expected)
+{
+    size_t at = 0;
+
+    while (got[at] == expected[at])
+        at++;
+    fail("%s (%u, %u): %s byte %zu is %u and should be %u", entry_name[c->entry], c->first, c->second,
+         area_name[i], at, got[at], expected[at]);
+}
+
+/* Calls both routers with the content of `area`, and compares number and areas; returns the number. */
+static uint8_t call_both(const struct call *c)
+{
+    unsigned lent_count = areas_lent(c->entry), ends = below(1u << AREAS);
+    uint8_t *lent[AREAS];
+    uint8_t expected, number;
+
+    for (unsigned i = 0; i < lent_count; i++) {
+        lent[i] = lend(c->entry, i, area[i], c->len[i], ends >> i & 1);
+        memcpy(before[i], area[i], c->len[i]);
+    }
+    expected = call_plain(c);
+    number = call_router(c, lent);
+    if (number != expected)
+        fail("%s (%u, %u): number is %u and should be %u", entry_name[c->entry], c->first, c->second, number,
+             expected);
+    for (unsigned i = 0; i < lent_count; i++) {
+        const uint8_t *should = number == ROUTER_ACCEPTED ? area[i] : before[i];
+
+        if (memcmp(lent[i], should, c->len[i]) != 0)
+            differs(c, i, lent[i], should);
+        if (memcmp(area[i], should, c->len[i]) != 0)
+            fail("the plain implementation changes %s in a refused call", area_name[i]);
+    }
+    if (number > ROUTER_BAD_VALUE || number_event[c->entry][number] == EVENTS)
+        fail("%s returns %u", entry_name[c->entry], number);
+    occurred[number_event[c->entry][number]]++;
+    if (c->entry == TICK && number == ROUTER_ACCEPTED) {
+        count_tick();
+        if (calls % CONTEST_SAMPLE == 0)
+            count_contests();
+    }
+    return number;
+}
+
+static struct call make_call(enum entry entry, unsigned first, unsigned second)
+{
+    struct call c = {entry, {0}, (uint8_t)first, (uint8_t)second};
+
+    memcpy(c.len, area_len, sizeof c.len);
+    return c;
+}
+
+static uint8_t fresh(unsigned clock)
+{
+    struct call c = make_call(FRESH, clock, 0);
+
+    return call_both(&c);
+}
+
+static uint8_t control(unsigned reg, unsigned value)
+{
+    struct call c = make_call(CONTROL, reg, value);
+
+    return call_both(&c);
+}
+
+/* A tick; outgoing and answers have random content before it. */
+static uint8_t tick(unsigned arrivals_mask, unsigned best_effort_mask)
+{
+    struct call c = make_call(TICK, arrivals_mask, best_effort_mask);
+
+    memset(area[OUTGOING], random_byte(), ROUTER_OUTGOING_LEN);
+    memset(answers, random_byte(), ROUTER_ANSWERS_LEN);
+    return call_both(&c);
+}
+
+static void expect(const char *what, unsigned got, unsigned should)
+{
+    if (got != should)
+        fail("%s is %u and should be %u", what, got, should);
+}
+
+static void keep(void)
+{
+    memcpy(kept[STATE], state, ROUTER_STATE_LEN);
+    memcpy(kept[MEMORY], memory, ROUTER_MEMORY_LEN);
+}
+
+static void come_back(void)
+{
+    memcpy(state, kept[STATE], ROUTER_STATE_LEN);
+    memcpy(memory, kept[MEMORY], ROUTER_MEMORY_LEN);
+}
+
+/* ---- Makers of states and packets ---- */
+
+static void open_connection(unsigned in, unsigned out, unsigned d, unsigned mask)
+{
+    expect("outgoing identifier", control(ROUTER_REG_OUT_ID, out), ROUTER_ACCEPTED);
+    expect("delay", control(ROUTER_REG_DELAY, d), ROUTER_ACCEPTED);
+    expect("mask", control(ROUTER_REG_MASK, mask), ROUTER_ACCEPTED);
+    expect("incoming identifier", control(ROUTER_REG_IN_ID, in), ROUTER_ACCEPTED);
+}
+
+static void set_horizons(unsigned ports, unsigned horizon)
+{
+    expect("ports", control(ROUTER_REG_PORTS, ports), ROUTER_ACCEPTED);
+    expect("horizon", control(ROUTER_REG_HORIZON, horizon), ROUTER_ACCEPTED);
+}
+
+/* Puts a packet into the arrivals, its time given by its offset. */
+static void put_arrival(unsigned port, unsigned connection, int offset)
+{
+    uint8_t *packet = arrival_at(port);
+
+    random_bytes(packet, ROUTER_PACKET_LEN);
+    packet[ROUTER_PACKET_ID] = (uint8_t)connection;
+    packet[ROUTER_PACKET_TIME] = (uint8_t)(state[ROUTER_STATE_CLOCK] + offset);
+}
+
+/* Writes a stored packet into slot s. */
+static void put_stored(unsigned s, int offset, unsigned d, unsigned mask)
+{
+    uint8_t *slot = slot_at(state, s);
+
+    slot[ROUTER_SLOT_TIME] = (uint8_t)(state[ROUTER_STATE_CLOCK] + offset);
+    slot[ROUTER_SLOT_DEADLINE] = (uint8_t)(slot[ROUTER_SLOT_TIME] + d);
+    slot[ROUTER_SLOT_MASK] = (uint8_t)mask;
+    stored_at(s)[ROUTER_PACKET_TIME] = slot[ROUTER_SLOT_DEADLINE];
+}
+
+/* A number of low to high, often one of the two. */
+static int edgy(int low, int high)
+{
+    unsigned which = below(8);
+
+    return which == 0 ? low : which == 1 ? high : between(low, high);
+}
+
+/* Makes a random sound state with so many packets; every byte that is free to be anything is random. */
+static void make_sound(unsigned stored)
+{
+    uint8_t order[ROUTER_SLOTS];
+    int spread = edgy(0, 126);
+
+    random_bytes(state, ROUTER_STATE_LEN);
+    random_bytes(memory, ROUTER_MEMORY_LEN);
+    for (unsigned p = 0; p < ROUTER_PORTS; p++)
+        state[ROUTER_STATE_HORIZONS + p] &= ROUTER_HORIZON_MAX;
+    state[ROUTER_STATE_DELAY] &= ROUTER_DELAY_MAX;
+    state[ROUTER_STATE_MASK] &= ROUTER_MASK_MAX;
+    state[ROUTER_STATE_PORTS] &= ROUTER_MASK_MAX;
+    for (unsigned c = 0; c < ROUTER_CONNECTIONS; c++) {
+        entry_at(state, c)[ROUTER_ENTRY_DELAY] &= ROUTER_DELAY_MAX;
+        entry_at(state, c)[ROUTER_ENTRY_MASK] &= ROUTER_MASK_MAX;
+    }
+    for (unsigned s = 0; s < ROUTER_SLOTS; s++) {
+        unsigned other = below(s + 1);
+
+        order[s] = order[other];
+        order[other] = (uint8_t)s;
+    }
+    set_free_count(ROUTER_SLOTS - stored);
+    for (unsigned i = 0; i < ROUTER_SLOTS - stored; i++) {
+        state[ROUTER_STATE_STACK + i] = order[i];
+        slot_at(state, order[i])[ROUTER_SLOT_MASK] = 0;
+    }
+    for (unsigned i = ROUTER_SLOTS - stored; i < ROUTER_SLOTS; i++) {
+        int d = edgy(0, ROUTER_DELAY_MAX);
+        int low = -d > -spread ? -d : -spread;
+
+        put_stored(order[i], chance(5) ? -d : edgy(low, spread), (unsigned)d, 1 + below(ROUTER_MASK_MAX));
+    }
+}
+
+/* How a run of random calls is to look. */
+struct regime {
+    unsigned arrivals, best_effort, controls, odd; /* percent */
+    unsigned connections, delay_max, horizon_max;
+    enum { ANY_VALID, ANY, EDGES, AHEAD, NEAR } offsets;
+    int unicast;
+};
+
+static struct regime random_regime(void)
+{
+    struct regime r;
+
+    r.arrivals = below(2) ? 100 : below(101);
+    r.best_effort = below(3) ? below(101) : 0;
+    r.controls = 1 + below(40);
+    r.odd = below(4);
+    r.connections = below(2) ? 1 + below(8) : 1 + below(256);
+    r.delay_max = below(2) ? ROUTER_DELAY_MAX : below(16);
+    r.horizon_max = below(2) ? ROUTER_HORIZON_MAX : below(8);
+    r.offsets = below(5);
+    r.unicast = chance(40);
+    return r;
+}
+
+static int random_offset(const struct regime *r, int d)
+{
+    const int edge[] = {-128, -d - 1, -d, -d + 1, -1, 0, 1, 2, 126, 127};
+
+    switch (chance((unsigned)r->odd) ? ANY : r->offsets) {
+    case ANY_VALID:
+        return between(-d, 127);
+    case ANY:
+        return between(-128, 127);
+    case EDGES:
+        return edge[below(sizeof edge / sizeof *edge)];
+    case AHEAD:
+        return between(64, 127);
+    default:
+        return between(-d, 8);
+    }
+}
+
+/* Puts a random packet into the arrivals of the router with this state; says its offset. */
+static int random_arrival(const struct regime *r, uint8_t *router, uint8_t *packet)
+{
+    unsigned connection = chance(r->odd) ? random_byte() : below(r->connections);
+    int offset = random_offset(r, entry_at(router, connection)[ROUTER_ENTRY_DELAY]);
+
+    random_bytes(packet, ROUTER_PACKET_LEN);
+    packet[ROUTER_PACKET_ID] = (uint8_t)connection;
+    packet[ROUTER_PACKET_TIME] = (uint8_t)(router[ROUTER_STATE_CLOCK] + offset);
+    return offset;
+}
+
+static uint8_t random_mask(unsigned percent)
+{
+    unsigned mask = 0;
+
+    for (unsigned p = 0; p < ROUTER_PORTS; p++)
+        mask |= (unsigned)chance(percent) << p;
+    return (uint8_t)mask;
+}
+
+static void random_control(const struct regime *r, uint8_t *reg, uint8_t *value)
+{
+    *reg = (uint8_t)(chance(r->odd) ? random_byte() : below(ROUTER_REGISTERS));
+    if (chance(r->odd)) {
+        *value = random_byte();
+        return;
+    }
+    switch (*reg) {
+    case ROUTER_REG_DELAY:
+        *value = (uint8_t)edgy(0, (int)r->delay_max);
+        break;
+    case ROUTER_REG_MASK:
+        *value = (uint8_t)(r->unicast ? 1u << below(ROUTER_PORTS) : below(ROUTER_MASK_MAX + 1));
+        break;
+    case ROUTER_REG_IN_ID:
+        *value = (uint8_t)below(r->connections);
+        break;
+    case ROUTER_REG_PORTS:
+        *value = (uint8_t)below(ROUTER_MASK_MAX + 1);
+        break;
+    case ROUTER_REG_HORIZON:
+        *value = (uint8_t)edgy(0, (int)r->horizon_max);
+        break;
+    default:
+        *value = random_byte();
+    }
+}
+
+/* ---- Tests of single calls ---- */
+
+static void test_fresh(void)
+{
+    for (unsigned clock = 0; clock < 256; clock++) {
+        random_bytes(state, ROUTER_STATE_LEN);
+        random_bytes(memory, ROUTER_MEMORY_LEN);
+        expect("fresh", fresh(clock), ROUTER_ACCEPTED);
+        for (unsigned i = 0; i < ROUTER_STATE_LEN; i++) {
+            unsigned should = i == ROUTER_STATE_CLOCK  ? clock
+                              : i == ROUTER_STATE_FREE ? 1
+                              : i >= ROUTER_STATE_STACK && i < ROUTER_STATE_SLOTS
+                                  ? 255 - (i - ROUTER_STATE_STACK)
+                                  : 0;
+
+            expect("state byte", state[i], should);
+        }
+        for (unsigned i = 0; i < ROUTER_MEMORY_LEN; i++)
+            expect("memory byte", memory[i], 0);
+        expect("fresh is sound", control(ROUTER_REG_OUT_ID, 0), ROUTER_ACCEPTED);
+    }
+}
+
+/* Calls with one length wrong, all else sound or all else wrong too. */
+static void wrong_length(enum entry entry, enum area i, size_t len)
+{
+    for (unsigned damaged = 0; damaged < 2; damaged++) {
+        struct call c = make_call(entry, damaged ? 255 : 1, damaged ? 255 : 1);
+
+        c.len[i] = len;
+        make_sound(below(257));
+        state[ROUTER_STATE_HORIZONS] |= (uint8_t)(damaged << 7);
+        expect("wrong length", call_both(&c), ROUTER_BAD_LENGTH);
+    }
+}
+
+/* A length that is right in its low 16 or 32 bits; the area is as long as that, and read-only. */
+static void long_area(enum entry entry, enum area i, size_t more)
+{
+    struct call c = make_call(entry, 1, 1);
+    size_t len = area_len[i] + more;
+    uint8_t *lent[AREAS];
+    uint8_t *map = mmap(NULL, len, PROT_READ, MAP_PRIVATE | MAP_ANONYMOUS | MAP_NORESERVE, -1, 0);
+
+    if (map == MAP_FAILED)
+        fail("no area of %zu bytes", len);
+    make_sound(below(257));
+    for (unsigned k = 0; k < AREAS; k++)
+        lent[k] = lend(entry, k, area[k], area_len[k], 1);
+    c.len[i] = len;
+    lent[i] = map;
+    expect("long area", call_router(&c, lent), ROUTER_BAD_LENGTH);
+    for (unsigned k = 0; k < AREAS; k++) {
+        if (k != i && memcmp(lent[k], area[k], area_len[k]) != 0)
+            fail("%s changed in a call with a long area", area_name[k]);
+    }
+    munmap(map, len);
+}
+
+static void test_lengths(void)
+{
+    for (unsigned entry = FRESH; entry <= TICK; entry++) {
+        for (unsigned i = 0; i < areas_lent(entry); i++) {
+            size_t right = area_len[i];
+            size_t wrong[] = {0, 1, 2, right / 2, right - 1, right + 1, right + 2, 2 * right, right + 256,
+                              area_len[0], area_len[1], area_len[2], area_len[4]};
+
+            for (unsigned k = 0; k < sizeof wrong / sizeof *wrong; k++) {
+                if (wrong[k] != right)
+                    wrong_length(entry, i, wrong[k]);
+            }
+            for (unsigned k = 0; k < 100; k++) {
+                size_t len = below(2 * (unsigned)right);
+
+                if (len != right)
+                    wrong_length(entry, i, len);
+            }
+            long_area(entry, i, (size_t)1 << 16);
+            if (SIZE_MAX > UINT32_MAX)
+                long_area(entry, i, (size_t)UINT32_MAX + 1);
+        }
+        struct call c = {entry, {0}, 0, 0};
+
+        expect("all lengths zero", call_both(&c), ROUTER_BAD_LENGTH);
+    }
+}
+
+static void test_masks(void)
+{
+    for (unsigned arrivals = 0; arrivals < 256; arrivals++) {
+        make_sound(below(257));
+        for (unsigned best_effort = 0; best_effort < 256; best_effort++) {
+            unsigned number = arrivals > ROUTER_MASK_MAX || best_effort > ROUTER_MASK_MAX ? ROUTER_BAD_PORT_MASK
+                                                                                          : ROUTER_ACCEPTED;
+
+            for (unsigned p = 0; p < ROUTER_PORTS; p++)
+                put_arrival(p, random_byte(), between(-20, 127));
+            expect("tick", tick(arrivals, best_effort), number);
+        }
+    }
+}
+
+static void test_registers(void)
+{
+    static const unsigned largest[ROUTER_REGISTERS] = {255, 127, 31, 255, 31, 127};
+
+    for (unsigned reg = 0; reg < 256; reg++) {
+        for (unsigned value = 0; value < 256; value++) {
+            unsigned number = reg >= ROUTER_REGISTERS ? ROUTER_BAD_REGISTER
+                              : value > largest[reg]  ? ROUTER_BAD_VALUE
+                                                      : ROUTER_ACCEPTED;
+
+            if (value % 16 == 0)
+                make_sound(below(257));
+            expect("control write", control(reg, value), number);
+        }
+    }
+}
+
+/* ---- Question 2 ---- */
+
+/* A control write and a tick get 2, also where their own numbers are wrong; then the kept state comes back. */
+static void unsound(const char *rule)
+{
+    unsigned mask = random_byte(), reg = random_byte();
+
+    if (control(reg, random_byte()) != ROUTER_BAD_STATE || tick(mask, random_byte()) != ROUTER_BAD_STATE)
+        fail("sound though broken: %s", rule);
+    come_back();
+}
+
+static void still_sound(const char *rule)
+{
+    if (control(ROUTER_REG_OUT_ID, random_byte()) != ROUTER_ACCEPTED || tick(0, 0) != ROUTER_ACCEPTED)
+        fail("not sound though within the rule: %s", rule);
+    come_back();
+}
+
+static void break_settings(void)
+{
+    for (unsigned p = 0; p < ROUTER_PORTS; p++) {
+        state[ROUTER_STATE_HORIZONS + p] = (uint8_t)between(128, 255);
+        unsound("horizon");
+        state[ROUTER_STATE_HORIZONS + p] = 128;
+        unsound("horizon 128");
+        state[ROUTER_STATE_HORIZONS + p] = 127;
+        still_sound("horizon 127");
+    }
+    for (unsigned value = 0; value < 256; value++) {
+        state[ROUTER_STATE_DELAY] = (uint8_t)value;
+        (value > 127 ? unsound : still_sound)("register 1");
+        state[ROUTER_STATE_MASK] = (uint8_t)value;
+        (value > 31 ? unsound : still_sound)("register 2");
+        state[ROUTER_STATE_PORTS] = (uint8_t)value;
+        (value > 31 ? unsound : still_sound)("register 4");
+    }
+    for (unsigned c = 0; c < ROUTER_CONNECTIONS; c++) {
+        entry_at(state, c)[ROUTER_ENTRY_DELAY] |= 128;
+        unsound("d of an entry");
+        entry_at(state, c)[ROUTER_ENTRY_MASK] |= (uint8_t)(32u << below(3));
+        unsound("mask of an entry");
+        entry_at(state, c)[ROUTER_ENTRY_DELAY] = 127;
+        entry_at(state, c)[ROUTER_ENTRY_MASK] = 31;
+        still_sound("largest d and mask of an entry");
+    }
+}
+
+/* Needs idle and stored slots. */
+static void break_stack(void)
+{
+    unsigned n = free_count(state);
+    uint8_t *stack = state + ROUTER_STATE_STACK;
+
+    for (unsigned count = 0; count <= 65535; count += count < 1024 ? 1 : 1 + below(64)) {
+        set_free_count(count);
+        if (count != n)
+            unsound("free count");
+    }
+    set_free_count(n);
+    for (unsigned i = 0; i < n; i++) {
+        unsigned other = below(n);
+        unsigned busy;
+
+        do
+            busy = below(ROUTER_SLOTS);
+        while (slot_at(state, busy)[ROUTER_SLOT_MASK] == 0);
+        stack[n] = stack[i];
+        set_free_count(n + 1);
+        unsound("an entry twice");
+        stack[n] = (uint8_t)busy;
+        set_free_count(n + 1);
+        unsound("a stored slot on the stack");
+        stack[i] = (uint8_t)busy;
+        unsound("a stored slot in the place of an idle one");
+        if (other != i) {
+            stack[i] = stack[other];
+            unsound("an entry in the place of another");
+        }
+        stack[i] = stack[n - 1];
+        set_free_count(n - 1);
+        unsound("an idle slot missing");
+        put_stored(stack[i], 0, 0, 1);
+        unsound("an idle slot stored");
+    }
+}
+
+static void break_packet(unsigned s)
+{
+    int d = edgy(0, 127);
+    unsigned mask = 1 + below(31);
+
+    slot_at(state, s)[ROUTER_SLOT_MASK] |= (uint8_t)(32u << below(3));
+    unsound("mask of a slot");
+    slot_at(state, s)[ROUTER_SLOT_MASK] = (uint8_t)(32u << below(3));
+    unsound("mask of a slot without ports");
+    put_stored(s, 0, (unsigned)edgy(128, 255), mask);
+    unsound("d above 127");
+    put_stored(s, between(-128, 126), (unsigned)edgy(128, 255), mask);
+    unsound("d above 127, any offset");
+    put_stored(s, 127, (unsigned)d, mask);
+    unsound("offset 127");
+    put_stored(s, -d - 1, (unsigned)d, mask);
+    unsound("offset -d - 1");
+    put_stored(s, between(-128, -d - 1), (unsigned)d, mask);
+    unsound("offset below -d");
+    put_stored(s, -128, 127, mask);
+    unsound("offset -128");
+    stored_at(s)[ROUTER_PACKET_TIME] ^= (uint8_t)(1u << below(8));
+    unsound("deadline in memory");
+    slot_at(state, s)[ROUTER_SLOT_MASK] = 0;
+    unsound("an idle slot that is not on the stack");
+    put_stored(s, 126, (unsigned)d, 31);
+    still_sound("offset 126");
+    put_stored(s, -d, (unsigned)d, mask);
+    still_sound("offset -d");
+}
+
+static void test_soundness(void)
+{
+    static const unsigned stored[] = {1, 128, 250, 256};
+
+    for (unsigned k = 0; k < sizeof stored / sizeof *stored; k++) {
+        make_sound(stored[k]);
+        keep();
+        break_settings();
+        if (stored[k] < ROUTER_SLOTS)
+            break_stack();
+        for (unsigned s = 0; s < ROUTER_SLOTS; s++) {
+            if (slot_at(state, s)[ROUTER_SLOT_MASK] != 0)
+                break_packet(s);
+        }
+    }
+    fresh(0);
+    keep();
+    break_settings();
+    state[ROUTER_STATE_FREE + 1] = 1;
+    unsound("free count 257");
+}
+
+/* Bytes that no rule names may be anything. */
+static void test_free_bytes(void)
+{
+    for (unsigned round = 0; round < 20000; round++) {
+        unsigned n;
+
+        if (round % 100 == 0)
+            make_sound(below(257));
+        n = free_count(state);
+        random_bytes(state + ROUTER_STATE_STACK + n, ROUTER_SLOTS - n);
+        state[ROUTER_STATE_OUT_ID] = random_byte();
+        for (unsigned s = 0; s < ROUTER_SLOTS; s++) {
+            uint8_t *slot = slot_at(state, s), *packet = stored_at(s);
+
+            entry_at(state, s)[ROUTER_ENTRY_OUT_ID] = random_byte();
+            packet[ROUTER_PACKET_ID] = random_byte();
+            packet[ROUTER_PACKET_DATA + below(ROUTER_DATA_LEN)] = random_byte();
+            if (slot[ROUTER_SLOT_MASK] == 0) {
+                slot[ROUTER_SLOT_TIME] = random_byte();
+                slot[ROUTER_SLOT_DEADLINE] = random_byte();
+                packet[ROUTER_PACKET_TIME] = random_byte();
+            }
+        }
+        if (state[ROUTER_STATE_CLOCK] % 2 != 0)
+            expect("control write", control(ROUTER_REG_OUT_ID, 0), ROUTER_ACCEPTED);
+        expect("tick", tick(0, random_mask(50)), ROUTER_ACCEPTED);
+    }
+}
+
+/* ---- Times ---- */
+
+/* A packet of each offset and each d: whether it is stored, what becomes of it at once, and when it leaves. */
+static void test_offsets(void)
+{
+    for (int d = 0; d <= ROUTER_DELAY_MAX; d++) {
+        for (int offset = -128; offset <= 127; offset++) {
+            unsigned port = below(ROUTER_PORTS), in = below(ROUTER_PORTS), connection = random_byte();
+            int horizon = edgy(0, 127);
+            uint8_t *entry = entry_at(state, connection);
+            unsigned number = offset >= -d ? ROUTER_ARRIVAL_STORED : ROUTER_ARRIVAL_LATE;
+            unsigned code = number != ROUTER_ARRIVAL_STORED ? ROUTER_PORT_IDLE
+                            : offset <= 0                   ? ROUTER_PORT_ON_TIME
+                            : offset <= horizon             ? ROUTER_PORT_EARLY
+                                                            : ROUTER_PORT_IDLE;
+
+            fresh(random_byte());
+            entry[ROUTER_ENTRY_OUT_ID] = random_byte();
+            entry[ROUTER_ENTRY_DELAY] = (uint8_t)d;
+            entry[ROUTER_ENTRY_MASK] = (uint8_t)(1u << port);
+            state[ROUTER_STATE_HORIZONS + port] = (uint8_t)horizon;
+            put_arrival(in, connection, offset);
+            expect("tick", tick(1u << in, 0), ROUTER_ACCEPTED);
+            expect("arrival", answers[ROUTER_ANSWERS_ARRIVALS + in], number);
+            expect("port code", answers[ROUTER_ANSWERS_PORTS + port], code);
+            if (number == ROUTER_ARRIVAL_STORED && code == ROUTER_PORT_IDLE && chance(20)) {
+                for (int wait = offset; wait-- > 0;) {
+                    expect("tick", tick(0, 1u << port), ROUTER_ACCEPTED);
+                    expect("later code", answers[ROUTER_ANSWERS_PORTS + port],
+                           wait == 0 ? ROUTER_PORT_ON_TIME : ROUTER_PORT_BEST_EFFORT);
+                }
+            }
+        }
+    }
+}
+
+/* ---- The cases of document 01 ---- */
+
+#define CASE_CLOCK 240
+#define CASE_PORT 1
+#define CASE_CONNECTION 5
+#define CASE_OUT 33
+
+/* A fresh router at the cases' clock with one connection, and one arrival of this time. */
+static void start_case(unsigned time, unsigned d, unsigned horizon)
+{
+    fresh(CASE_CLOCK);
+    open_connection(CASE_CONNECTION, CASE_OUT, d, 1u << CASE_PORT);
+    set_horizons(1u << CASE_PORT, horizon);
+    put_arrival(0, CASE_CONNECTION, (int)time - CASE_CLOCK);
+}
+
+static void one_case(unsigned time, unsigned d, unsigned horizon, unsigned number, unsigned code)
+{
+    start_case(time, d, horizon);
+    expect("tick", tick(1, 0), ROUTER_ACCEPTED);
+    expect("arrival", answers[ROUTER_ANSWERS_ARRIVALS], number);
+    expect("port code", answers[ROUTER_ANSWERS_PORTS + CASE_PORT], code);
+    if (code == ROUTER_PORT_ON_TIME || code == ROUTER_PORT_EARLY) {
+        expect("outgoing identifier", area[OUTGOING][ROUTER_PACKET_LEN * CASE_PORT], CASE_OUT);
+        expect("outgoing time", area[OUTGOING][ROUTER_PACKET_LEN * CASE_PORT + ROUTER_PACKET_TIME],
+               (time + d) % 256);
+    }
+}
+
+/* Stores packets in slots 9 and 2 and lets the port choose; best is the slot that wins. */
+static void two_slots(int offset_9, unsigned d_9, int offset_2, unsigned d_2, unsigned best)
+{
+    make_sound(0);
+    memset(state + ROUTER_STATE_HORIZONS, ROUTER_HORIZON_MAX, ROUTER_PORTS);
+    for (unsigned s = 0; s < ROUTER_SLOTS; s++)
+        state[ROUTER_STATE_STACK + s] = (uint8_t)s;
+    set_free_count(ROUTER_SLOTS - 2);
+    state[ROUTER_STATE_STACK + 2] = 254;
+    state[ROUTER_STATE_STACK + 9] = 255;
+    put_stored(9, offset_9, d_9, 1u << CASE_PORT);
+    put_stored(2, offset_2, d_2, 1u << CASE_PORT);
+    expect("tick", tick(0, 0), ROUTER_ACCEPTED);
+    expect("slot sent", slot_at(state, best)[ROUTER_SLOT_MASK], 0);
+}
+
+static void test_cases(void)
+{
+    one_case(80, 40, 96, ROUTER_ARRIVAL_STORED, ROUTER_PORT_EARLY);
+    one_case(80, 40, 95, ROUTER_ARRIVAL_STORED, ROUTER_PORT_IDLE);
+    one_case(210, 40, 0, ROUTER_ARRIVAL_STORED, ROUTER_PORT_ON_TIME);
+    one_case(200, 40, 0, ROUTER_ARRIVAL_STORED, ROUTER_PORT_ON_TIME);
+    one_case(199, 40, 0, ROUTER_ARRIVAL_LATE, ROUTER_PORT_IDLE);
+    one_case(111, 40, 127, ROUTER_ARRIVAL_STORED, ROUTER_PORT_EARLY);
+    one_case(111, 40, 126, ROUTER_ARRIVAL_STORED, ROUTER_PORT_IDLE);
+    one_case(112, 40, 127, ROUTER_ARRIVAL_LATE, ROUTER_PORT_IDLE);
+    one_case(112, 127, 127, ROUTER_ARRIVAL_LATE, ROUTER_PORT_IDLE);
+    one_case(113, 127, 0, ROUTER_ARRIVAL_STORED, ROUTER_PORT_ON_TIME);
+    one_case(240, 0, 0, ROUTER_ARRIVAL_STORED, ROUTER_PORT_ON_TIME);
+    two_slots(-3, 10, -1, 8, 2);
+    two_slots(5, 10, 5, 90, 2);
+    two_slots(-3, 10, 0, 8, 9);
+    two_slots(4, 100, 5, 0, 9);
+
+    /* Two packets due now at one port: one is sent, the other withdrawn. */
+    start_case(240, 0, 0);
+    put_arrival(3, CASE_CONNECTION, 0);
+    expect("tick", tick(1 | 1u << 3, 0), ROUTER_ACCEPTED);
+    expect("port code", answers[ROUTER_ANSWERS_PORTS + CASE_PORT], ROUTER_PORT_ON_TIME);
+    expect("withdrawn", withdrawn_at(answers, CASE_PORT), 1);
+    expect("free count", free_count(state), ROUTER_SLOTS);
+    expect("top of the stack", state[ROUTER_STATE_STACK + 255], 1);
+
+    /* Mask 31: five ports send in one tick, and the slot is next to be taken. */
+    start_case(240, 40, 0);
+    open_connection(CASE_CONNECTION, CASE_OUT, 40, ROUTER_MASK_MAX);
+    expect("tick", tick(1, 0), ROUTER_ACCEPTED);
+    for (unsigned p = 0; p < ROUTER_PORTS; p++)
+        expect("port code", answers[ROUTER_ANSWERS_PORTS + p], ROUTER_PORT_ON_TIME);
+    expect("free count", free_count(state), ROUTER_SLOTS);
+    expect("top of the stack", state[ROUTER_STATE_STACK + 255], 0);
+
+    /* Best-effort traffic goes before an early packet within the horizon, and not before one on time. */
+    start_case(241, 40, 127);
+    expect("tick", tick(1, ROUTER_MASK_MAX), ROUTER_ACCEPTED);
+    expect("port code", answers[ROUTER_ANSWERS_PORTS + CASE_PORT], ROUTER_PORT_BEST_EFFORT);
+
+    /* The stored packet keeps its d when its entry changes. */
+    open_connection(CASE_CONNECTION, CASE_OUT, 3, 1);
+    expect("tick", tick(0, ROUTER_MASK_MAX), ROUTER_ACCEPTED);
+    expect("port code", answers[ROUTER_ANSWERS_PORTS + CASE_PORT], ROUTER_PORT_ON_TIME);
+    expect("outgoing time", area[OUTGOING][ROUTER_PACKET_LEN * CASE_PORT + ROUTER_PACKET_TIME], 241 + 40 - 256);
+}
+
+/* 256 stored: a packet that passes 6 and 7 gets 8, though the tick frees a slot. */
+static void test_full(void)
+{
+    for (unsigned round = 0; round < 256; round++) {
+        unsigned stored = 0;
+
+        fresh(round);
+        open_connection(CASE_CONNECTION, CASE_OUT, round % 128, 1u << CASE_PORT);
+        while (stored < ROUTER_SLOTS) {
+            for (unsigned p = 0; p < ROUTER_PORTS; p++)
+                put_arrival(p, CASE_CONNECTION, 127);
+            expect("tick", tick(ROUTER_MASK_MAX, 0), ROUTER_ACCEPTED);
+            for (unsigned p = 0; p < ROUTER_PORTS; p++)
+                expect("arrival", answers[ROUTER_ANSWERS_ARRIVALS + p],
+                       stored++ < ROUTER_SLOTS ? ROUTER_ARRIVAL_STORED : ROUTER_ARRIVAL_FULL);
+        }
+        put_arrival(1, CASE_CONNECTION + 1, 0);
+        put_arrival(2, CASE_CONNECTION, -128);
+        do {
+            put_arrival(4, CASE_CONNECTION, 0);
+            expect("tick", tick(1 << 1 | 1 << 2 | 1 << 4, 0), ROUTER_ACCEPTED);
+            expect("arrival", answers[ROUTER_ANSWERS_ARRIVALS + 1], ROUTER_ARRIVAL_CLOSED);
+            expect("arrival", answers[ROUTER_ANSWERS_ARRIVALS + 4], ROUTER_ARRIVAL_FULL);
+        } while (answers[ROUTER_ANSWERS_PORTS + CASE_PORT] != ROUTER_PORT_ON_TIME);
+        put_arrival(4, CASE_CONNECTION, 0);
+        expect("tick", tick(1 << 4, 0), ROUTER_ACCEPTED);
+        expect("arrival", answers[ROUTER_ANSWERS_ARRIVALS + 4], ROUTER_ARRIVAL_STORED);
+    }
+    for (unsigned mask = 1; mask <= ROUTER_MASK_MAX; mask++) {
+        make_sound(ROUTER_SLOTS);
+        for (unsigned s = 0; s < ROUTER_SLOTS; s++)
+            put_stored(s, -(int)(s % 128), s % 128, mask);
+        expect("tick", tick(ROUTER_MASK_MAX, random_mask(50)), ROUTER_ACCEPTED);
+        for (unsigned p = 0; p < ROUTER_PORTS; p++)
+            expect("withdrawn", withdrawn_at(answers, p), (mask >> p & 1) * 255);
+        expect("free count", free_count(state), ROUTER_SLOTS);
+        for (unsigned s = 0; s < ROUTER_SLOTS; s++)
+            expect("stack", state[ROUTER_STATE_STACK + s], s);
+    }
+}
+
+/* ---- Random calls ---- */
+
+static void random_call(const struct regime *r)
+{
+    uint8_t first, second;
+
+    if (chance(r->controls)) {
+        random_control(r, &first, &second);
+        control(first, second);
+        return;
+    }
+    for (unsigned p = 0; p < ROUTER_PORTS; p++)
+        random_arrival(r, state, arrival_at(p));
+    first = chance(r->odd) ? random_byte() : random_mask(r->arrivals);
+    second = chance(r->odd) ? random_byte() : random_mask(r->best_effort);
+    tick(first, second);
+}
+
+/* Long runs from a fresh router. */
+static void test_evolving(void)
+{
+    struct regime r = random_regime();
+
+    for (unsigned k = 0; k < EVOLVING_CALLS; k++) {
+        if (k % 4000 == 0)
+            fresh(random_byte());
+        if (k % 1000 == 0)
+            r = random_regime();
+        random_call(&r);
+    }
+}
+
+/* Short runs from random sound states. */
+static void test_made(void)
+{
+    for (unsigned k = 0; k < MADE_CALLS; k += 20) {
+        struct regime r = random_regime();
+
+        make_sound(chance(20) ? ROUTER_SLOTS - below(6) : below(257));
+        for (unsigned c = 0; c < 20; c++)
+            random_call(&r);
+    }
+}
+
+/* One to three random bytes changed, mostly in the state, in sound states and after ticks. */
+static void test_damaged(void)
+{
+    struct regime r = random_regime();
+
+    for (unsigned k = 0; k < DAMAGED_CALLS; k++) {
+        if (k % 50 == 0) {
+            r = random_regime();
+            make_sound(below(257));
+            keep();
+        }
+        for (unsigned changes = below(4); changes > 0; changes--) {
+            uint8_t *byte = chance(90) ? state + below(ROUTER_STATE_LEN) : memory + below(ROUTER_MEMORY_LEN);
+
+            *byte = (uint8_t)(chance(50) ? random_byte() : *byte ^ 1u << below(8));
+        }
+        random_call(&r);
+        if (control(ROUTER_REG_OUT_ID, 0) != ROUTER_ACCEPTED || chance(20))
+            come_back();
+    }
+}
+
+/* ---- The router that never turns over ---- */
+
+/* A packet that is still stored, as the ledger of fates has it. */
+struct fate {
+    uint64_t serial; /* stands at the start of the packet's data */
+    int64_t time, deadline;
+    uint8_t out_id, left;
+};
+
+#define ODD_LEN_MAX 200 /* arrivals, outgoing and answers may have any length up to this */
+
+static struct whole whole;
+static struct fate ledger[ROUTER_SLOTS];
+static unsigned ledger_count;
+static uint64_t last_serial;
+static uint8_t *whole_state, *whole_memory; /* of the router under test */
+
+/* Slot s and its memory show what place s holds, n is 256 less the packets stored, and all else agrees too. */
+static void check_correspondence(void)
+{
+    unsigned stored = 0, n = free_count(whole_state);
+
+    expect("clock", whole_state[ROUTER_STATE_CLOCK], whole_cut(whole.clock));
+    for (unsigned s = 0; s < ROUTER_SLOTS; s++) {
+        const struct whole_place *place = &whole.place[s];
+        const uint8_t *slot = slot_at(whole_state, s), *packet = whole_memory + ROUTER_PACKET_LEN * s;
+
+        if (slot[ROUTER_SLOT_MASK] != place->left)
+            fail("slot %u has ports %u and should have %u", s, slot[ROUTER_SLOT_MASK], place->left);
+        if (place->left == 0)
+            continue;
+        stored++;
+        if (slot[ROUTER_SLOT_TIME] != whole_cut(place->time) ||
+            slot[ROUTER_SLOT_DEADLINE] != whole_cut(place->deadline) ||
+            packet[ROUTER_PACKET_ID] != place->out_id ||
+            packet[ROUTER_PACKET_TIME] != whole_cut(place->deadline) ||
+            memcmp(packet + ROUTER_PACKET_DATA, place->data, ROUTER_DATA_LEN) != 0)
+            fail("slot %u or its memory does not show its place", s);
+    }
+    expect("free count", n, ROUTER_SLOTS - stored);
+    for (unsigned i = 0; i < n; i++)
+        expect("free place", whole_state[ROUTER_STATE_STACK + n - 1 - i], whole.free[i]);
+}
+
+static void check_settings(void)
+{
+    const struct whole_entry *written = &whole.written;
+
+    expect("register 0", whole_state[ROUTER_STATE_OUT_ID], written->out_id);
+    expect("register 1", whole_state[ROUTER_STATE_DELAY], written->delay);
+    expect("register 2", whole_state[ROUTER_STATE_MASK], written->mask);
+    expect("register 4", whole_state[ROUTER_STATE_PORTS], whole.ports);
+    for (unsigned p = 0; p < ROUTER_PORTS; p++)
+        expect("horizon", whole_state[ROUTER_STATE_HORIZONS + p], whole.horizon[p]);
+    for (unsigned c = 0; c < ROUTER_CONNECTIONS; c++) {
+        const uint8_t *entry = entry_at(whole_state, c);
+
+        expect("entry identifier", entry[ROUTER_ENTRY_OUT_ID], whole.table[c].out_id);
+        expect("entry d", entry[ROUTER_ENTRY_DELAY], whole.table[c].delay);
+        expect("entry mask", entry[ROUTER_ENTRY_MASK], whole.table[c].mask);
+    }
+}
+
+/* Writes an accepted arrival into the ledger; the entry is as in the tick, which no control write has touched. */
+static void enter_fate(const uint8_t *packet, int64_t time, int64_t now)
+{
+    const uint8_t *entry = entry_at(whole_state, packet[ROUTER_PACKET_ID]);
+    struct fate *fate = &ledger[ledger_count];
+
+    if (ledger_count == ROUTER_SLOTS)
+        fail("a packet accepted though 256 are stored");
+    ledger_count++;
+    memcpy(&fate->serial, packet + ROUTER_PACKET_DATA, sizeof fate->serial);
+    fate->time = time;
+    fate->deadline = time + entry[ROUTER_ENTRY_DELAY];
+    fate->out_id = entry[ROUTER_ENTRY_OUT_ID];
+    fate->left = entry[ROUTER_ENTRY_MASK];
+    if (fate->deadline < now)
+        fail("a packet accepted after its deadline");
+}
+
+/* A packet left by a port: it is one that is still to be served there, and may go now. */
+static void leave_fate(const uint8_t *packet, unsigned port, uint8_t code, int64_t now, uint8_t horizon)
+{
+    uint64_t serial;
+    unsigned i = 0;
+
+    memcpy(&serial, packet + ROUTER_PACKET_DATA, sizeof serial);
+    while (i < ledger_count && ledger[i].serial != serial)
+        i++;
+    if (i == ledger_count || !(ledger[i].left >> port & 1))
+        fail("port %u sends a packet that it has not to serve", port);
+    if (packet[ROUTER_PACKET_ID] != ledger[i].out_id || packet[ROUTER_PACKET_TIME] != whole_cut(ledger[i].deadline))
+        fail("port %u sends a wrong identifier or deadline", port);
+    if (now > ledger[i].deadline || (code == ROUTER_PORT_ON_TIME) != (ledger[i].time <= now) ||
+        ledger[i].time - now > horizon)
+        fail("port %u sends a packet at a wrong time", port);
+    ledger[i].left = (uint8_t)(ledger[i].left & ~(1u << port));
+    occurred[code == ROUTER_PORT_ON_TIME ? FATE_ON_TIME : FATE_EARLY]++;
+}
+
+/* Fates of one accepted tick: each port of a packet is served once, or withdrawn in the deadline tick. */
+static void check_fates(const uint8_t *arrivals, const int64_t *time, const uint8_t *outgoing,
+                        const uint8_t *answered, int64_t now)
+{
+    unsigned withdrawn[ROUTER_PORTS] = {0}, kept_count = 0;
+
+    for (unsigned p = 0; p < ROUTER_PORTS; p++) {
+        if (answered[ROUTER_ANSWERS_ARRIVALS + p] == ROUTER_ARRIVAL_STORED)
+            enter_fate(arrivals + ROUTER_PACKET_LEN * p, time[p], now);
+    }
+    for (unsigned p = 0; p < ROUTER_PORTS; p++) {
+        uint8_t code = answered[ROUTER_ANSWERS_PORTS + p];
+
+        if (code == ROUTER_PORT_ON_TIME || code == ROUTER_PORT_EARLY)
+            leave_fate(outgoing + ROUTER_PACKET_LEN * p, p, code, now, whole_state[ROUTER_STATE_HORIZONS + p]);
+    }
+    for (unsigned i = 0; i < ledger_count; i++) {
+        if (ledger[i].deadline == now) {
+            for (unsigned p = 0; p < ROUTER_PORTS; p++)
+                withdrawn[p] += ledger[i].left >> p & 1;
+            occurred[FATE_WITHDRAWN] += ledger[i].left != 0;
+            ledger[i].left = 0;
+        }
+        if (ledger[i].left != 0)
+            ledger[kept_count++] = ledger[i];
+    }
+    ledger_count = kept_count;
+    for (unsigned p = 0; p < ROUTER_PORTS; p++)
+        expect("withdrawn", withdrawn_at(answered, p), withdrawn[p]);
+    expect("packets stored", ROUTER_SLOTS - free_count(whole_state), ledger_count);
+}
+
+/* A tick of both; with `serials` each packet has its own data, else all have the same. */
+static void whole_tick_both(const struct regime *r, int serials)
+{
+    struct call c = make_call(TICK, chance(r->odd) ? random_byte() : random_mask(r->arrivals),
+                              chance(r->odd) ? random_byte() : random_mask(r->best_effort));
+    uint8_t bytes[AREAS][ODD_LEN_MAX]; /* the other router's arrivals, outgoing and answers */
+    uint8_t *lent[AREAS] = {whole_state, whole_memory};
+    int64_t time[ROUTER_PORTS], now = whole.clock;
+    uint8_t expected, number;
+
+    for (unsigned i = ARRIVALS; i < AREAS; i++) {
+        if (chance(r->odd) && chance(20))
+            c.len[i] = below(ODD_LEN_MAX);
+        memset(bytes[i], random_byte(), sizeof bytes[i]);
+    }
+    for (unsigned p = 0; p < ROUTER_PORTS; p++) {
+        uint8_t *packet = bytes[ARRIVALS] + ROUTER_PACKET_LEN * p;
+
+        time[p] = now + random_arrival(r, whole_state, packet);
+        memset(packet + ROUTER_PACKET_DATA, 0, ROUTER_DATA_LEN);
+        last_serial++;
+        if (serials)
+            memcpy(packet + ROUTER_PACKET_DATA, &last_serial, sizeof last_serial);
+        occurred[WHOLE_BELOW_ZERO] += time[p] < 0;
+    }
+    for (unsigned i = ARRIVALS; i < AREAS; i++)
+        lent[i] = lend(TICK, i, bytes[i], c.len[i], (int)below(2));
+    expected = whole_tick(&whole, bytes[ARRIVALS], c.len[ARRIVALS], time, bytes[OUTGOING], c.len[OUTGOING],
+                          bytes[ANSWERS], c.len[ANSWERS], c.first, c.second);
+    number = call_router(&c, lent);
+    expect("number", number, expected);
+    for (unsigned i = ARRIVALS; i < AREAS; i++) {
+        if (memcmp(lent[i], bytes[i], c.len[i]) != 0)
+            differs(&c, i, lent[i], bytes[i]);
+    }
+    if (number != ROUTER_ACCEPTED) {
+        occurred[WHOLE_REFUSED]++;
+        return;
+    }
+    occurred[WHOLE_TICK]++;
+    occurred[WHOLE_TURN] += whole_cut(whole.clock) == 0;
+    if (serials)
+        check_fates(lent[ARRIVALS], time, lent[OUTGOING], lent[ANSWERS], now);
+}
+
+static void whole_control_both(const struct regime *r)
+{
+    struct call c = make_call(CONTROL, 0, 0);
+    uint8_t *lent[AREAS] = {whole_state, guarded[MEMORY].readable + (whole_memory - guarded[MEMORY].writable)};
+    uint8_t number;
+
+    random_control(r, &c.first, &c.second);
+    number = call_router(&c, lent);
+    expect("number", number, whole_control(&whole, c.first, c.second));
+    occurred[WHOLE_REFUSED] += number != ROUTER_ACCEPTED;
+    check_settings();
+}
+
+static void test_whole(void)
+{
+    struct regime r = random_regime();
+    int serials = 1;
+
+    for (unsigned ticks = 0; ticks < WHOLE_TICKS;) {
+        if (ticks % 60000 == 0) {
+            struct call c = make_call(FRESH, ticks == 0 ? 0 : random_byte(), 0);
+            uint8_t *lent[AREAS];
+
+            lent[STATE] = whole_state = lend(FRESH, STATE, state, ROUTER_STATE_LEN, (int)below(2));
+            lent[MEMORY] = whole_memory = lend(FRESH, MEMORY, memory, ROUTER_MEMORY_LEN, (int)below(2));
+            expect("fresh", call_router(&c, lent), ROUTER_ACCEPTED);
+            whole_fresh(&whole, c.first);
+            ledger_count = 0;
+            serials = ticks % 240000 != 180000;
+        }
+        if (ticks % 500 == 0)
+            r = random_regime();
+        while (chance(r.controls)) {
+            whole_control_both(&r);
+            check_correspondence();
+        }
+        whole_tick_both(&r, serials);
+        check_correspondence();
+        ticks++;
+    }
+    check_settings();
+}
+
+/* ---- Document 001, Fig. 10 ---- */
+
+#define FIG_CONNECTIONS 3
+#define FIG_PERIOD (9u * 7u * 4u) /* in which each connection has a whole number of packets */
+#define FIG_TICKS (400u * FIG_PERIOD)
+#define FIG_PORT 2
+#define FIG_BACKLOG 100 /* a source hands over its packets this long before their logical arrival time */
+
+static void test_fig_10(void)
+{
+    static const unsigned delay[FIG_CONNECTIONS] = {8, 5, 3}, spacing[FIG_CONNECTIONS] = {9, 7, 4};
+    unsigned next[FIG_CONNECTIONS] = {0}, sent[FIG_CONNECTIONS] = {0}, best_effort = 0;
+
+    fresh(0);
+    for (unsigned c = 0; c < FIG_CONNECTIONS; c++)
+        open_connection(c, c, delay[c], 1u << FIG_PORT);
+    for (unsigned now = 0; now < FIG_TICKS; now++) {
+        unsigned arrivals = 0;
+        const uint8_t *out = area[OUTGOING] + ROUTER_PACKET_LEN * FIG_PORT;
+
+        for (unsigned c = 0; c < FIG_CONNECTIONS; c++) {
+            if (next[c] <= now + FIG_BACKLOG) {
+                put_arrival(c, c, (int)(next[c] - now));
+                next[c] += spacing[c];
+                arrivals |= 1u << c;
+            }
+        }
+        expect("tick", tick(arrivals, 1u << FIG_PORT), ROUTER_ACCEPTED);
+        for (unsigned c = 0; c < FIG_CONNECTIONS; c++)
+            expect("arrival", answers[ROUTER_ANSWERS_ARRIVALS + c], arrivals >> c & 1);
+        expect("withdrawn", withdrawn_at(answers, FIG_PORT), 0);
+        if (answers[ROUTER_ANSWERS_PORTS + FIG_PORT] == ROUTER_PORT_BEST_EFFORT) {
+            best_effort++;
+            continue;
+        }
+        expect("port code", answers[ROUTER_ANSWERS_PORTS + FIG_PORT], ROUTER_PORT_ON_TIME);
+        if (out[ROUTER_PACKET_ID] >= FIG_CONNECTIONS)
+            fail("no such connection: %u", out[ROUTER_PACKET_ID]);
+        sent[out[ROUTER_PACKET_ID]]++;
+    }
+    printf("     Fig. 10: %u ticks, no deadline missed\n", FIG_TICKS);
+    printf("     | traffic      | d | I_min | packets | share  | reserved |\n");
+    for (unsigned c = 0; c < FIG_CONNECTIONS; c++) {
+        printf("     | connection %u | %u | %5u | %7u | %.4f | %8.4f |\n", c, delay[c], spacing[c], sent[c],
+               (double)sent[c] / FIG_TICKS, 1.0 / spacing[c]);
+        expect("packets sent", sent[c], FIG_TICKS / spacing[c]);
+    }
+    printf("     | best-effort  |   |       | %7u | %.4f |     rest |\n", best_effort,
+           (double)best_effort / FIG_TICKS);
+    expect("best-effort", best_effort, FIG_TICKS - sent[0] - sent[1] - sent[2]);
+}
+
+/* ---- All ---- */
+
+static void test_occurred(void)
+{
+    unsigned missing = 0;
+
+    for (unsigned e = 0; e < EVENTS; e++) {
+        printf("     %-48s %10lu%s\n", event_name[e], occurred[e], occurred[e] == 0 ? "   NEVER" : "");
+        missing += occurred[e] == 0;
+    }
+    if (missing != 0)
+        fail("%u of these never occurred", missing);
+}
+
+int main(int argc, char **argv)
+{
+    struct sigaction action;
+
+    seed = argc > 1 ? strtoull(argv[1], NULL, 10) : DEFAULT_SEED;
+    memset(&action, 0, sizeof action);
+    action.sa_sigaction = on_fault;
+    action.sa_flags = SA_SIGINFO | SA_NODEFER;
+    sigaction(SIGSEGV, &action, NULL);
+    sigaction(SIGBUS, &action, NULL);
+    map_areas();
+    printf("seed %" PRIu64 "\n", seed);
+
+    section("a fresh router, every clock", test_fresh);
+    section("wrong and zero lengths", test_lengths);
+    section("masks of every value", test_masks);
+    section("registers and values of every value", test_registers);
+    section("soundness: each rule broken alone", test_soundness);
+    section("soundness: bytes that no rule names", test_free_bytes);
+    section("every offset and every d", test_offsets);
+    section("the cases of document 01", test_cases);
+    section("256 stored", test_full);
+    section("random calls from a fresh router", test_evolving);
+    section("random calls from random sound states", test_made);
+    section("random damage", test_damaged);
+    section("the router that never turns over, and fates", test_whole);
+    section("document 001, Fig. 10", test_fig_10);
+    section("all numbers, codes and events occurred", test_occurred);
+    printf("test: %u passed, %u failed, %lu calls, %.0f s of processor time\n", passed, failed, calls,
+           (double)clock() / CLOCKS_PER_SEC);
+    return failed == 0 ? EXIT_SUCCESS : EXIT_FAILURE;
+}

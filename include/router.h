@@ -1,0 +1,210 @@
+/*
+ * router.h - the packet router of the control boards: three entries over byte areas that the caller lends.
+ *
+ * The router forwards packets of 20 bytes from five inputs to five outputs by deadline. It has an 8-bit clock,
+ * 256 connections and a packet memory of 256 slots. All it knows lies in two areas of the caller, the state and
+ * the packet memory; it keeps no variable and no pointer of its own, allocates nothing and calls nobody back.
+ * A board makes the two areas fresh once, opens connections with control writes, and then calls a tick once per
+ * packet time.
+ *
+ *
+ * AREAS
+ *
+ * An area is handed over as a pointer and then its length in bytes. For every call the caller answers for this:
+ *   - each area is at least as long as the length handed over with it, readable, and (unless const) writable;
+ *   - the areas of one call do not overlap;
+ *   - no pointer is null, not even with length 0.
+ * A call whose lengths are not those below is refused; none of its areas is then read or written. A call touches
+ * nothing outside its areas. Calls on different state and memory are independent of each other.
+ *
+ *
+ * ANSWERS AND REFUSALS
+ *
+ * Each entry returns one number: ROUTER_ACCEPTED (0), or the number of the first question, in the order of the
+ * list "Numbers" below, that the call does not pass. A refused call changes nothing: each byte of each area is
+ * as it was, outgoing packets and answers included. The number and every byte of every area after a call depend
+ * on nothing but the numbers and the bytes handed over.
+ *
+ *
+ * TIMES
+ *
+ * The clock counts ticks and turns over at 256, as do all sums and differences of times. The offset of a time is
+ * (time - clock) read as a signed byte, -128 to 127. A packet is on time if the offset of its logical arrival
+ * time is at most 0, and early if it is above 0.
+ */
+#ifndef ROUTER_H
+#define ROUTER_H
+
+#include <stddef.h>
+#include <stdint.h>
+
+#ifdef __cplusplus
+extern "C" {
+#endif
+
+/* Counts. */
+#define ROUTER_PORTS 5
+#define ROUTER_SLOTS 256
+#define ROUTER_CONNECTIONS 256
+#define ROUTER_REGISTERS 6
+
+/* Lengths of the areas, in bytes. */
+#define ROUTER_STATE_LEN 1804
+#define ROUTER_MEMORY_LEN 5120
+#define ROUTER_ARRIVALS_LEN 100
+#define ROUTER_OUTGOING_LEN 100
+#define ROUTER_ANSWERS_LEN 20
+
+/* Largest values. A port mask has bit p (1 << p) for port p. */
+#define ROUTER_MASK_MAX 31
+#define ROUTER_DELAY_MAX 127
+#define ROUTER_HORIZON_MAX 127
+
+/*
+ * A packet. Slot s has bytes ROUTER_PACKET_LEN * s and following of the memory; port p likewise in the arrivals
+ * and outgoing areas. A packet arrives with its connection identifier and its logical arrival time; in memory
+ * and when it leaves it has the outgoing identifier and its deadline, the logical arrival time at the next node.
+ */
+#define ROUTER_PACKET_LEN 20
+#define ROUTER_PACKET_ID 0
+#define ROUTER_PACKET_TIME 1
+#define ROUTER_PACKET_DATA 2
+#define ROUTER_DATA_LEN 18
+
+/* The state, by offset. */
+#define ROUTER_STATE_CLOCK 0
+#define ROUTER_STATE_HORIZONS 1  /* one byte per port */
+#define ROUTER_STATE_OUT_ID 6    /* last write to ROUTER_REG_OUT_ID */
+#define ROUTER_STATE_DELAY 7     /* last write to ROUTER_REG_DELAY */
+#define ROUTER_STATE_MASK 8      /* last write to ROUTER_REG_MASK */
+#define ROUTER_STATE_PORTS 9     /* last write to ROUTER_REG_PORTS */
+#define ROUTER_STATE_FREE 10     /* free count n, two bytes, high byte first */
+#define ROUTER_STATE_STACK 12    /* idle addresses; the top is entry n - 1, the next to be taken */
+#define ROUTER_STATE_SLOTS 268   /* ROUTER_SLOT_LEN bytes per slot */
+#define ROUTER_STATE_TABLE 1036  /* ROUTER_ENTRY_LEN bytes per connection, by incoming identifier */
+
+/* A slot; it is empty if its mask is 0. */
+#define ROUTER_SLOT_LEN 3
+#define ROUTER_SLOT_TIME 0       /* logical arrival time */
+#define ROUTER_SLOT_DEADLINE 1   /* logical arrival time + d */
+#define ROUTER_SLOT_MASK 2       /* ports still to serve */
+
+/* An entry of the connection table; the connection is closed if its mask is 0. */
+#define ROUTER_ENTRY_LEN 3
+#define ROUTER_ENTRY_OUT_ID 0
+#define ROUTER_ENTRY_DELAY 1
+#define ROUTER_ENTRY_MASK 2
+
+/* Control registers. A write to ROUTER_REG_IN_ID or ROUTER_REG_HORIZON is a commit; the others wait for one. */
+#define ROUTER_REG_OUT_ID 0      /* outgoing identifier, 0 to 255 */
+#define ROUTER_REG_DELAY 1       /* delay d, 0 to ROUTER_DELAY_MAX */
+#define ROUTER_REG_MASK 2        /* mask of output ports, 0 to ROUTER_MASK_MAX */
+#define ROUTER_REG_IN_ID 3       /* incoming identifier, 0 to 255: commits registers 0, 1 and 2 to that entry */
+#define ROUTER_REG_PORTS 4       /* mask of ports for the next horizon, 0 to ROUTER_MASK_MAX */
+#define ROUTER_REG_HORIZON 5     /* horizon, 0 to ROUTER_HORIZON_MAX: commits it to the ports of register 4 */
+
+/* The answers of a tick, by offset. */
+#define ROUTER_ANSWERS_PORTS 0      /* a port code per output */
+#define ROUTER_ANSWERS_ARRIVALS 5   /* an arrival number per input */
+#define ROUTER_ANSWERS_WITHDRAWN 10 /* packets withdrawn per output, two bytes, high byte first */
+
+/* Numbers returned by a call, in the order in which the questions are put. */
+#define ROUTER_ACCEPTED 0
+#define ROUTER_BAD_LENGTH 1      /* an area does not have its length */
+#define ROUTER_BAD_STATE 2       /* state and memory are not sound (see SOUND); not asked by router_fresh */
+#define ROUTER_BAD_PORT_MASK 3   /* tick: a mask is above ROUTER_MASK_MAX */
+#define ROUTER_BAD_REGISTER 4    /* control: there is no such register */
+#define ROUTER_BAD_VALUE 5       /* control: the value does not fit the register */
+
+/* Arrival numbers, one per input in the answers; the refusals are put in this order. */
+#define ROUTER_ARRIVAL_NONE 0    /* the arrivals mask does not have this port */
+#define ROUTER_ARRIVAL_STORED 1
+#define ROUTER_ARRIVAL_CLOSED 6  /* the entry of its identifier has mask 0 */
+#define ROUTER_ARRIVAL_LATE 7    /* the offset of its time is below -d */
+#define ROUTER_ARRIVAL_FULL 8    /* no slot is idle at its turn; slots that this tick frees come too late */
+
+/* Port codes, one per output in the answers. */
+#define ROUTER_PORT_IDLE 0
+#define ROUTER_PORT_ON_TIME 1
+#define ROUTER_PORT_BEST_EFFORT 2
+#define ROUTER_PORT_EARLY 3
+
+/*
+ * SOUND. A state and its memory are sound if
+ *   - n is at most 256, the first n stack entries differ from each other, and they are exactly the empty slots;
+ *   - every mask (slots, table, registers 2 and 4) is at most ROUTER_MASK_MAX;
+ *   - every d (table, register 1) is at most ROUTER_DELAY_MAX, every horizon at most ROUTER_HORIZON_MAX;
+ *   - for each slot that is not empty, d = deadline - time is at most ROUTER_DELAY_MAX, the offset of its time
+ *     is -d to 126, and the byte ROUTER_PACKET_TIME of its memory equals its deadline.
+ * Nothing else matters: the stack from entry n on, the other bytes of an empty slot and of its memory, and all
+ * identifiers and data may be anything. router_fresh makes them sound, and every accepted call keeps them so.
+ * The clock byte is the router's: to set it on a router that holds packets makes the state unsound in general.
+ */
+
+/*
+ * router_fresh makes a router with the given clock, no connection and no packet.
+ *
+ * The old content of the areas is not looked at. If accepted it writes every byte of both: the clock; n = 256;
+ * stack entry i is 255 - i, so that slot 0 is taken first; every other byte of state and memory is zero.
+ *
+ * Returns ROUTER_ACCEPTED or ROUTER_BAD_LENGTH. Every clock is accepted.
+ */
+uint8_t router_fresh(uint8_t *state, size_t state_len,
+                     uint8_t *memory, size_t memory_len,
+                     uint8_t clock);
+
+/*
+ * router_control writes one control register.
+ *
+ * Reads state and memory (the memory for the question whether they are sound, and only reads it). If accepted it
+ * writes state bytes only:
+ *   ROUTER_REG_OUT_ID, _DELAY, _MASK, _PORTS   the value is stored at ROUTER_STATE_OUT_ID, _DELAY, _MASK, _PORTS;
+ *   ROUTER_REG_IN_ID                           table entry `value` gets the three stored bytes outgoing
+ *                                              identifier, d and mask; with mask 0 this closes the connection;
+ *   ROUTER_REG_HORIZON                         each port in the stored ports mask gets `value` as its horizon.
+ * A commit leaves the stored bytes as they are. Packets already in memory do not change when their entry does.
+ *
+ * Returns ROUTER_ACCEPTED, ROUTER_BAD_LENGTH, ROUTER_BAD_STATE, ROUTER_BAD_REGISTER or ROUTER_BAD_VALUE.
+ */
+uint8_t router_control(uint8_t *state, size_t state_len,
+                       const uint8_t *memory, size_t memory_len,
+                       uint8_t reg, uint8_t value);
+
+/*
+ * router_tick runs one packet time.
+ *
+ * Reads state, memory, and of the arrivals (which it only reads) the packets of the ports in arrivals_mask; the
+ * other packets there may be anything. The old content of outgoing and answers is not looked at. If accepted it
+ * writes state and memory, all of outgoing and all of answers. With t the clock:
+ *
+ *   1. Arrivals, port 0 first. An arrival that gets none of the refusals ROUTER_ARRIVAL_CLOSED, _LATE, _FULL
+ *      takes the top idle address. Its slot gets its time, deadline = time + d, and the entry's mask; the memory
+ *      gets the packet with the outgoing identifier and the deadline in the place of identifier and time. A
+ *      refused arrival changes nothing but its answer, and the tick goes on.
+ *   2. Each port looks at the slots whose mask has it. Of the packets on time the one with the least deadline - t
+ *      is sent, ROUTER_PORT_ON_TIME. If there is none: where best_effort_mask has the port, best-effort traffic
+ *      has it, ROUTER_PORT_BEST_EFFORT. Else of the early packets the one with the least time - t is sent if
+ *      that is at most the port's horizon, ROUTER_PORT_EARLY. Else ROUTER_PORT_IDLE. Among equals the lower
+ *      slot wins.
+ *   3. A sent packet is copied from memory to its port in outgoing; a port without a packet gets 20 zero bytes.
+ *      The port leaves the slot's mask; a packet for several ports stays until each of them is served.
+ *   4. A packet with ports still to serve and deadline t is withdrawn: it counts one for each of these ports in
+ *      ROUTER_ANSWERS_WITHDRAWN (at most 255 per port), and its mask becomes 0.
+ *   5. The slots emptied in this tick are given back to the stack, the lowest address first. Their other bytes
+ *      and their memory stay.
+ *   6. The clock advances by 1 and turns over after 255.
+ *
+ * Returns ROUTER_ACCEPTED, ROUTER_BAD_LENGTH, ROUTER_BAD_STATE or ROUTER_BAD_PORT_MASK.
+ */
+uint8_t router_tick(uint8_t *state, size_t state_len,
+                    uint8_t *memory, size_t memory_len,
+                    const uint8_t *arrivals, size_t arrivals_len,
+                    uint8_t *outgoing, size_t outgoing_len,
+                    uint8_t *answers, size_t answers_len,
+                    uint8_t arrivals_mask, uint8_t best_effort_mask);
+
+#ifdef __cplusplus
+}
+#endif
+
+#endif
