@@ -2,10 +2,10 @@
 ghost use mathlib.Core.Path.{_≡_};
 ghost use Prim.Native.Nat.{_/_, _%_};
 ghost use lib.ListN.{length};
-ghost use Rattle.rules.specs.Areas.{quiet, display};
+ghost use Rattle.rules.specs.Areas.{quiet, display, areasFull};
 ghost use Rattle.rules.specs.Board8.{board8};
 ghost use Rattle.rules.specs.Tick.{Outcome, ticked};
-ghost use Rattle.rules.specs.Questions.{controlRefusal, tickRefusal, makeFresh, controlWrite, tick};
+ghost use Rattle.rules.specs.Questions.{full, controlRefusal, tickRefusal, makeFresh, controlWrite, tick};
 ghost use Rattle.fresh.specs.Numbers.{numberOf};
 ghost use Rattle.router.specs.Answers.{Lent, laid};
 use fresh::Refusal;
@@ -21,14 +21,34 @@ pub extern "C" fn router_fresh(state: &mut [u8], memory: &mut [u8], clock: u8) -
     fresh::make_fresh(state, memory, clock)
 }
 
+// Question 1 of state and memory.
+fn store_full(state: &[u8], memory: &[u8]) -> bool
+    ensures { λ r. ⌜ r ≡ full board8 (record { state = now (state .entry); memory = now (memory .entry) }) ⌝ }
+{
+    if state.len() != Router::STATE {
+        return false;
+    }
+    memory.len() == Router::MEMORY
+}
+
+// Question 1 of a tick's other areas.
+fn areas_full(arrivals: &[u8], outgoing: &[u8], answers: &[u8]) -> bool
+    ensures { λ r. ⌜ r ≡ areasFull (now (arrivals .entry)) (now (outgoing .entry)) (now (answers .entry)) ⌝ }
+{
+    if arrivals.len() != Router::ARRIVALS {
+        return false;
+    }
+    if Router::OUTGOING != outgoing.len() {
+        return false;
+    }
+    answers.len() == Router::ANSWERS
+}
+
 // The questions of a control write, in order.
 fn control_questions(state: &[u8], memory: &[u8], register: u8, value: u8) -> Refusal
     ensures { λ r. ⌜ numberOf r ≡ controlRefusal board8 (record { state = now (state .entry); memory = now (memory .entry) }) register value ⌝ }
 {
-    if state.len() != Router::STATE {
-        return Refusal::Lengths;
-    }
-    if memory.len() != Router::MEMORY {
+    if !store_full(state, memory) {
         return Refusal::Lengths;
     }
     if !sound::is_sound(state, memory) {
@@ -71,19 +91,10 @@ fn tick_questions(
     ensures number { λ r. ⌜ numberOf r ≡ tickRefusal board8 (record { state = now (state .entry); memory = now (memory .entry) }) arriving waiting (now (arrivals .entry)) (now (outgoing .entry)) (now (answers .entry)) ⌝ }
     ensures lengths { λ r. ⌜ (numberOf r ≡ 0 → Lent (now (state .entry)) (now (memory .entry)) (now (arrivals .entry)) (now (outgoing .entry)) (now (answers .entry))) ⌝ }
 {
-    if state.len() != Router::STATE {
+    if !store_full(state, memory) {
         return Refusal::Lengths;
     }
-    if memory.len() != Router::MEMORY {
-        return Refusal::Lengths;
-    }
-    if arrivals.len() != Router::ARRIVALS {
-        return Refusal::Lengths;
-    }
-    if outgoing.len() != Router::OUTGOING {
-        return Refusal::Lengths;
-    }
-    if answers.len() != Router::ANSWERS {
+    if !areas_full(arrivals, outgoing, answers) {
         return Refusal::Lengths;
     }
     if !sound::is_sound(state, memory) {
@@ -170,7 +181,7 @@ pub extern "C" fn router_tick(
         (record { reply = record { number = r; outgoing = now (outgoing .exit); answers = now (answers .exit) }; store = record { state = now (state .exit); memory = now (memory .exit) } })
         (tick board8 (record { state = now (state .entry); memory = now (memory .entry) }) arriving waiting (now (arrivals .entry)) (now (outgoing .entry)) (now (answers .entry))) ⌝ }
 {
-    let number = tick_questions(
+    let n = tick_questions(
         state,
         memory,
         arrivals,
@@ -179,8 +190,8 @@ pub extern "C" fn router_tick(
         arriving,
         waiting,
     ).number();
-    if number != 0 {
-        return number;
+    if n != 0 {
+        return n;
     }
     work(
         state,
@@ -191,7 +202,7 @@ pub extern "C" fn router_tick(
         arriving,
         waiting,
     );
-    number
+    n
 }
 
 // The 18 data bytes of a port, as a part of the outgoing area.
