@@ -162,6 +162,9 @@ uint8_t router_fresh(uint8_t *state, size_t state_len,
  *   ROUTER_REG_IN_ID                           table entry `value` gets the three stored bytes outgoing
  *                                              identifier, d and mask; with mask 0 this closes the connection;
  *   ROUTER_REG_HORIZON                         each port in the stored ports mask gets `value` as its horizon.
+ *
+ * The router limits d and horizons each alone. Whoever chooses them keeps their sum below 128 on each port: a packet sent
+ * far ahead of its time must still be less than half a turn of the clock early at the next board.
  * A commit leaves the stored bytes as they are. Packets already in memory do not change when their entry does.
  *
  * Returns ROUTER_ACCEPTED, ROUTER_BAD_LENGTH, ROUTER_BAD_STATE, ROUTER_BAD_REGISTER or ROUTER_BAD_VALUE.
