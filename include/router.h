@@ -162,10 +162,10 @@ uint8_t router_fresh(uint8_t *state, size_t state_len,
  *   ROUTER_REG_IN_ID                           table entry `value` gets the three stored bytes outgoing
  *                                              identifier, d and mask; with mask 0 this closes the connection;
  *   ROUTER_REG_HORIZON                         each port in the stored ports mask gets `value` as its horizon.
+ * A commit leaves the stored bytes as they are. Packets already in memory do not change when their entry does.
  *
  * The router limits d and horizons each alone. Whoever chooses them keeps their sum below 128 on each port: a packet sent
  * far ahead of its time must still be less than half a turn of the clock early at the next board.
- * A commit leaves the stored bytes as they are. Packets already in memory do not change when their entry does.
  *
  * Returns ROUTER_ACCEPTED, ROUTER_BAD_LENGTH, ROUTER_BAD_STATE, ROUTER_BAD_REGISTER or ROUTER_BAD_VALUE.
  */
@@ -192,7 +192,7 @@ uint8_t router_control(uint8_t *state, size_t state_len,
  *   3. A sent packet is copied from memory to its port in outgoing; a port without a packet gets 20 zero bytes.
  *      The port leaves the slot's mask; a packet for several ports stays until each of them is served.
  *   4. A packet with ports still to serve and deadline t is withdrawn: it counts one for each of these ports in
- *      ROUTER_ANSWERS_WITHDRAWN (at most 255 per port), and its mask becomes 0.
+ *      ROUTER_ANSWERS_WITHDRAWN, and its mask becomes 0.
  *   5. The slots emptied in this tick are given back to the stack, the lowest address first. Their other bytes
  *      and their memory stay.
  *   6. The clock advances by 1 and turns over after 255.
