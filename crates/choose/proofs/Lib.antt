@@ -1,3 +1,4 @@
 pub mod Empty
 mod Ranking
+mod Offers
 mod Choice

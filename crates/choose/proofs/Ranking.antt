@@ -1,12 +1,13 @@
 -- One minimum for both kinds of key: the least rank is that of the least keys, since an on-time key's rank is below every early one's, and of equal keys
 -- the lower slot's is less. Assumes nothing.
-use Prim.Native.Nat.{ℕ, zero, suc, _+_, _-_, _*_, _<_}
-use mathlib.Core.Path.{_≡_, refl, ap, _∙_}
+use Prim.Native.Nat.{ℕ, zero, suc, _+_, _-_, _*_, _%_, _<_}
+use mathlib.Core.Path.{_≡_, refl, _∙_}
 use mathlib.Core.Bool.{Bool, true, false, cond, not, _&&_}
 use mathlib.Core.List.{List}
 use mathlib.Core.Option.{Option, none, some}
 use native.Mathlib.Decide.{decLt}
 use native.Mathlib.Omega.{arith}
+use lib.ListN.{getD, replicate, getD-replicate}
 use lib.Dec.{ltb}
 use lib.IntN.{pos}
 use lib.Signed.{leZ, ltZ}
@@ -19,8 +20,8 @@ use Rattle.rules.specs.Board8.{board8}
 use Rattle.rules.specs.Tick.{onTimeKey, earlyKey}
 use Rattle.rules.proofs.Offsets.{above}
 use Rattle.rules.proofs.Masks.{has-zero}
-use Rattle.choose.specs.declared.Bests.{Bests}
-use Rattle.choose.specs.Ranks.{rankOf, slotRank, best, bests}
+use Rattle.choose.specs.Ranks.{rankOf, slotRank, best, Bests, Offered}
+use Rattle.choose.proofs.Offers.{has-low}
 
 -- ---- a least key is a byte, at a slot below k
 
@@ -112,26 +113,24 @@ module _ (s : List ℕ) (t i p : ℕ) (et : t ≡ board8 .get s clock) (hi : i <
       go true true = rank-due i d hi (omega arith) o e (due-small s p i)
       go true false = rank-early i u hi (omega arith) o e (due-small s p i) (early-small s p i)
 
--- The same for the five ports, of the numbers that the code reads.
-module _ (s : List ℕ) (t i : ℕ) (et : t ≡ board8 .get s clock) (hi : i < 256) (m r : ℕ) (em : m ≡ board8 .get s (mask i)) (er : r ≡ slotRank s t i) (b : Bests) (eb : b ≡ bests s i) where
-  abbrev lessFor : ℕ → ℕ → ℕ
-  lessFor p x = cond (has m p && ltb r x) r x
+-- No slot looked at.
+pub bests-start : (s : List ℕ) → Bests s 0 (replicate 5 131072)
+unfolding best least rankOf
+bests-start s = record { five = refl; each = λ p h. getD-replicate 5 p 131072 0 h }
 
-  less-is : (p x y : ℕ) → x ≡ lessFor p y → y ≡ best s i p → x ≡ best s (suc i) p
-  less-is p x y e q = e ∙ rw (em, er, q) (best-suc s t i p et hi)
+-- The same for the five ports, of what the code reads and stores.
+pub bests-suc : (s : List ℕ) (t i : ℕ) → t ≡ board8 .get s clock → i < 256 → (m r : ℕ) → m < 256 → m ≡ board8 .get s (mask i) → r ≡ slotRank s t i
+    → (l l′ : List ℕ) → Bests s i l → Offered (m % 32) r l l′ → Bests s (suc i) l′
+bests-suc s t i et hi m r hm em er l l′ h o = record { five = o .five; each = λ p hp. o .each p hp ∙ rw (has-low m p hm hp, em, er, h .each p hp) (best-suc s t i p et hi) }
 
-  pub bests-suc : (v w x y z : ℕ) → v ≡ lessFor 0 (b .p0) → w ≡ lessFor 1 (b .p1) → x ≡ lessFor 2 (b .p2) → y ≡ lessFor 3 (b .p3) → z ≡ lessFor 4 (b .p4)
-      → _≡_ {A = Bests} (record { p0 = v; p1 = w; p2 = x; p3 = y; p4 = z }) (bests s (suc i))
-  bests-suc v w x y z ev ew ex ey ez =
-      rw (less-is 0 v (b .p0) ev (ap (λ (b : Bests). b .p0) eb), less-is 1 w (b .p1) ew (ap (λ (b : Bests). b .p1) eb), less-is 2 x (b .p2) ex (ap (λ (b : Bests). b .p2) eb), less-is 3 y (b .p3) ey (ap (λ (b : Bests). b .p3) eb), less-is 4 z (b .p4) ez (ap (λ (b : Bests). b .p4) eb))
+-- ---- slots that no port looks at
 
--- ---- empty slots
-
-best-empty : (s : List ℕ) (i p : ℕ) → p < 5 → board8 .get s (mask i) ≡ 0 → best s i p ≡ best s (suc i) p
+best-none : (s : List ℕ) (i p : ℕ) → has (board8 .get s (mask i)) p ≡ false → best s i p ≡ best s (suc i) p
 unfolding best least onTimeKey earlyKey
-best-empty s i p hp z = rw (z, has-zero p hp) (rank-none (least ltb (onTimeKey board8 s p) i) (least ltb (earlyKey board8 s p) i) i)
+best-none s i p z = rw z (rank-none (least ltb (onTimeKey board8 s p) i) (least ltb (earlyKey board8 s p) i) i)
 
--- An empty slot changes no least rank.
-pub bests-empty : (s : List ℕ) (i : ℕ) → board8 .get s (mask i) ≡ 0 → bests s i ≡ bests s (suc i)
-bests-empty s i z =
-    rw (best-empty s i 0 (omega arith) z, best-empty s i 1 (omega arith) z, best-empty s i 2 (omega arith) z, best-empty s i 3 (omega arith) z, best-empty s i 4 (omega arith) z)
+pub best-empty : (s : List ℕ) (p : ℕ) → p < 5 → (i : ℕ) → board8 .get s (mask i) ≡ 0 → best s i p ≡ best s (suc i) p
+best-empty s p hp i z = best-none s i p (rw z (has-zero p hp))
+
+pub bests-none : (s : List ℕ) (i m : ℕ) → m < 256 → m ≡ board8 .get s (mask i) → m % 32 ≡ 0 → (l : List ℕ) → Bests s i l → Bests s (suc i) l
+bests-none s i m hm em z l h = record { five = h .five; each = λ p hp. h .each p hp ∙ best-none s i p (rw (← em, ← has-low m p hm hp, z) (has-zero p hp)) }

@@ -1,18 +1,19 @@
 -- A slot's key and address as one number, and the least of them for a port. Assumes nothing.
-use Prim.Native.Nat.{ℕ, _+_, _*_}
-use mathlib.Core.Bool.{cond}
+use Prim.Native.Nat.{ℕ, _+_, _*_, _<_}
+use mathlib.Core.Path.{_≡_}
+use mathlib.Core.Bool.{cond, _&&_}
 use mathlib.Core.List.{List}
 use mathlib.Core.Option.{Option, none, some}
+use lib.ListN.{length, getD}
 use lib.Dec.{ltb}
 use lib.IntN.{pos}
 use lib.Signed.{leZ}
 use Rattle.rules.specs.Clock.{minus, offset}
 use Rattle.rules.specs.Indices.{least}
-use Rattle.rules.specs.Areas.{bits}
+use Rattle.rules.specs.Areas.{bits, has}
 use Rattle.rules.specs.Board.{time, deadline}
 use Rattle.rules.specs.Board8.{board8}
 use Rattle.rules.specs.Tick.{onTimeKey, earlyKey}
-use Rattle.choose.specs.declared.Bests.{Bests}
 
 -- From the least on-time key and the least early key, each with its slot: the on-time one first; 131072 for neither.
 unfoldable pub rankOf : Option (ℕ × ℕ) → Option (ℕ × ℕ) → ℕ
@@ -31,6 +32,16 @@ slotRank s t i =
 unfoldable pub best : List ℕ → ℕ → ℕ → ℕ
 best s i p = rankOf (least ltb (onTimeKey board8 s p) i) (least ltb (earlyKey board8 s p) i)
 
--- The same for the five ports, as a value of the code.
-abbrev pub bests : List ℕ → ℕ → Bests
-bests s i = record { p0 = best s i 0; p1 = best s i 1; p2 = best s i 2; p3 = best s i 3; p4 = best s i 4 }
+-- Five numbers: the least ranks of the slots below i, port by port.
+pub record Bests (s : List ℕ) (i : ℕ) (l : List ℕ) : Type 0 where
+  pub five : length l ≡ 5
+  pub each : (p : ℕ) → p < 5 → getD l p 0 ≡ best s i p
+
+-- What port p has of the least ranks l, once the rank r is offered to the ports in the mask m.
+abbrev pub offered : ℕ → ℕ → List ℕ → ℕ → ℕ
+offered m r l p = cond (has m p && ltb r (getD l p 0)) r (getD l p 0)
+
+-- The same for the five ports.
+pub record Offered (m r : ℕ) (l l′ : List ℕ) : Type 0 where
+  pub five : length l′ ≡ 5
+  pub each : (p : ℕ) → p < 5 → getD l′ p 0 ≡ offered m r l p

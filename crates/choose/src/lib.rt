@@ -1,9 +1,9 @@
 // Step 2 of a tick: one pass over the slots finds the winners of the five ports.
 ghost use mathlib.Core.Path.{_≡_};
-ghost use mathlib.Core.Bool.{cond, _&&_};
+ghost use mathlib.Core.Bool.{cond};
 ghost use Prim.Native.Nat.{suc, _<_};
+ghost use lib.ListN.{length};
 ghost use lib.Dec.{ltb};
-ghost use Rattle.rules.specs.Areas.{has};
 ghost use Rattle.rules.specs.Board.{clock};
 ghost use Rattle.rules.specs.Board8.{board8};
 ghost use Rattle.rules.specs.Tick.{grant};
@@ -18,15 +18,6 @@ use clock::ClockReading;
 const EARLY: u32 = 65536;
 
 const NONE: u32 = 131072;
-
-// The least rank for each port.
-pub struct Bests {
-    pub p0: u32,
-    pub p1: u32,
-    pub p2: u32,
-    pub p3: u32,
-    pub p4: u32,
-}
 
 // Who has a port.
 pub enum Grant {
@@ -48,34 +39,35 @@ fn rank(state: &[u8], t: ClockReading, s: SlotAddress) -> u32
     EARLY + (clock::since(time, t) as u32) * 256 + s.0 as u32
 }
 
-// The lesser rank, for a port that the mask has.
-fn better(mask: u8, port: u8, rank: u32, best: u32) -> u32
-    requires { ⌜ port < 5 ⌝ }
-    ensures { λ r. ⌜ r ≡ cond (has mask port && ltb rank best) rank best ⌝ }
+fn lesser(rank: u32, best: u32) -> u32
+    ensures { λ r. ⌜ r ≡ cond (ltb rank best) rank best ⌝ }
 {
-    if !area::has_port(mask, port) {
-        return best;
-    }
     if rank < best { rank } else { best }
 }
 
-// The least ranks, with slot s looked at.
-fn look(state: &[u8], t: ClockReading, s: SlotAddress, b: Bests) -> Bests
-    requires { ⌜ (t .0 ≡ board8 .get (now state) clock) × (b ≡ Ranks.bests (now state) (s .0)) ⌝ }
-    ensures { λ r. ⌜ r ≡ Ranks.bests (now (state .entry)) (suc (s .0)) ⌝ }
+// Gives each port in the mask the lesser of its least rank and this one, lowest port first.
+fn offer(bests: &mut [u32; 5], mask: u8, rank: u32)
+    requires { ⌜ (mask < 32) × (length (now bests) ≡ 5) ⌝ }
+    ensures { λ _. ⌜ Ranks.Offered mask rank (now (bests .entry)) (now (bests .exit)) ⌝ }
 {
-    let mask = area::get(state, Field::Mask(s));
+    let mut left = mask;
+    while left != 0 {
+        let p = u8::trailing_zeros(left) as usize;
+        bests[p] = lesser(rank, bests[p]);
+        left = left & (left - 1);
+    }
+}
+
+// The least ranks, with slot s looked at.
+fn look(state: &[u8], t: ClockReading, s: SlotAddress, bests: &mut [u32; 5])
+    requires { ⌜ (t .0 ≡ board8 .get (now state) clock) × Ranks.Bests (now state) (s .0) (now bests) ⌝ }
+    ensures { λ _. ⌜ Ranks.Bests (now (state .entry)) (suc (s .0)) (now (bests .exit)) ⌝ }
+{
+    let mask = area::get(state, Field::Mask(s)) % 32;
     if mask == 0 {
-        return b;
+        return;
     }
-    let r = rank(state, t, s);
-    Bests {
-        p0: better(mask, 0, r, b.p0),
-        p1: better(mask, 1, r, b.p1),
-        p2: better(mask, 2, r, b.p2),
-        p3: better(mask, 3, r, b.p3),
-        p4: better(mask, 4, r, b.p4),
-    }
+    offer(bests, mask, rank(state, t, s));
 }
 
 // All slots from this one on are empty.
@@ -93,24 +85,18 @@ pub fn end(state: &[u8]) -> usize
 }
 
 // The least ranks of all slots; those from `end` on are empty.
-pub fn scan(state: &[u8], end: usize) -> Bests
+pub fn scan(state: &[u8], end: usize) -> [u32; 5]
     requires { ⌜ EmptyFrom (now state) end ⌝ }
-    ensures { λ r. ⌜ r ≡ Ranks.bests (now (state .entry)) 256 ⌝ }
+    ensures { λ r. ⌜ Ranks.Bests (now (state .entry)) 256 r ⌝ }
 {
     let t = ClockReading(area::get(state, Field::Clock));
-    let mut b = Bests {
-        p0: NONE,
-        p1: NONE,
-        p2: NONE,
-        p3: NONE,
-        p4: NONE,
-    };
+    let mut bests = [NONE; 5];
     let mut i: usize = 0;
     while i < end {
-        b = look(state, t, SlotAddress(i as u8), b);
+        look(state, t, SlotAddress(i as u8), &mut bests);
         i += 1;
     }
-    b
+    bests
 }
 
 // Who has a port, by its least rank.

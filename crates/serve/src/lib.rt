@@ -40,8 +40,8 @@ pub fn serve_and_settle(state: &mut [u8], memory: &[u8], outgoing: &mut [u8], wa
 {
     let mut sent = [0u8; 256];
     let end = choose::end(state);
-    let b = choose::scan(state, end);
-    let codes = send::serve(state, memory, outgoing, &mut sent, waiting, b);
+    let bests = choose::scan(state, end);
+    let codes = send::serve(state, memory, outgoing, &mut sent, waiting, bests);
     let counts = settle::settle(state, &sent, end);
     advance(state);
     Served { codes, counts }

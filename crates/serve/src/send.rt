@@ -7,11 +7,10 @@ ghost use lib.Seq.{sets};
 ghost use Rattle.rules.specs.Areas as Areas;
 ghost use Rattle.rules.specs.Board8.{board8};
 ghost use Rattle.rules.specs.Tick.{grant, grantBytes};
-ghost use Rattle.choose.specs.Ranks.{best, bests};
+ghost use Rattle.choose.specs.Ranks.{best, Bests};
 ghost use Rattle.choose.specs.Grants.{the};
 ghost use Rattle.serve.specs.Sends.{marked, sends};
 use area::SlotAddress;
-use choose::Bests;
 use choose::Grant;
 
 // A port's answer.
@@ -104,18 +103,18 @@ pub fn serve(
     outgoing: &mut [u8],
     sent: &mut [u8; 256],
     waiting: u8,
-    b: Bests,
+    bests: [u32; 5],
 ) -> [u8; 5]
     requires lengths { ⌜ (length (now memory) ≡ 5120) × (length (now outgoing) ≡ 100) ⌝ }
-    requires start { ⌜ (b ≡ bests (now state) 256) × (now sent ≡ replicate 256 0) ⌝ }
+    requires start { ⌜ Bests (now state) 256 bests × (now sent ≡ replicate 256 0) ⌝ }
     ensures codes { λ r. ⌜ r ≡ Areas.perPort (λ p. Areas.grantCode (grant board8 (now (state .entry)) waiting p) ∷ []) ⌝ }
     ensures packets { λ _. ⌜ now (outgoing .exit) ≡ Areas.perPort (λ p. grantBytes (now (memory .entry)) (grant board8 (now (state .entry)) waiting p)) ⌝ }
     ensures masks { λ _. ⌜ now (sent .exit) ≡ sends (now (state .entry)) waiting 5 ⌝ }
 {
-    let a0 = serve_port(state, memory, outgoing, sent, waiting, 0, b.p0);
-    let a1 = serve_port(state, memory, outgoing, sent, waiting, 1, b.p1);
-    let a2 = serve_port(state, memory, outgoing, sent, waiting, 2, b.p2);
-    let a3 = serve_port(state, memory, outgoing, sent, waiting, 3, b.p3);
-    let a4 = serve_port(state, memory, outgoing, sent, waiting, 4, b.p4);
+    let a0 = serve_port(state, memory, outgoing, sent, waiting, 0, bests[0]);
+    let a1 = serve_port(state, memory, outgoing, sent, waiting, 1, bests[1]);
+    let a2 = serve_port(state, memory, outgoing, sent, waiting, 2, bests[2]);
+    let a3 = serve_port(state, memory, outgoing, sent, waiting, 3, bests[3]);
+    let a4 = serve_port(state, memory, outgoing, sent, waiting, 4, bests[4]);
     [a0, a1, a2, a3, a4]
 }

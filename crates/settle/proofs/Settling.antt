@@ -4,6 +4,7 @@ use mathlib.Core.Path.{_≡_, refl, sym, ap, _∙_}
 use mathlib.Core.Bool.{Bool, true, false, cond, not, _&&_, _||_, and-true, and-false}
 use mathlib.Core.List.{List, [], _∷_}
 use mathlib.Core.Logic.{_≢_}
+use native.Mathlib.Decide.{ℕ-discrete}
 use native.Mathlib.Omega.{arith}
 use lib.ListN.{length, getD}
 use lib.Dec.{eqb}
@@ -14,7 +15,7 @@ use Rattle.rules.specs.Board.{Field, clock, free, idle, deadline, mask}
 use Rattle.rules.specs.Board8.{board8, table8}
 use Rattle.rules.specs.Tick.{isDue, giveBack}
 use Rattle.rules.proofs.Masks.{has-zero}
-use Rattle.rules.proofs.FieldBytes.{get-other, length-put, free-put-free, free-put-one}
+use Rattle.rules.proofs.FieldBytes.{get-other, put-again, length-put, free-put-free, free-put-one}
 use Rattle.settle.specs.declared.Counts.{Counts}
 use Rattle.settle.specs.Counts.{Few, more, slotCounts, counts}
 use Rattle.area.specs.Room.{held}
@@ -173,6 +174,17 @@ module _ (s : List ℕ) (i t x m : ℕ) (c : Counts) (em : m ≡ board8 .get s (
 
       pub slot-left : (r : List ℕ) → m - x ≢ 0 → r ≡ board8 .put s (mask i) (m - x) → Settles r c
       slot-left r z e = rw (is-held, ne-eqb (board8 .get s (deadline i)) t d, ← em, ne-eqb (m - x) 0 z, e) (refl, refl)
+
+-- Not sent and not due: the mask that is stored is the one that is there.
+pub slot-waits : (s : List ℕ) (i t x : ℕ) (c : Counts) → x ≡ 0 → board8 .get s (deadline i) ≢ t → Settles s i t x (board8 .get s (mask i)) c refl s c
+slot-waits s i t x c z d = go (ℕ-discrete m 0)
+  where
+    m : ℕ
+    m = board8 .get s (mask i)
+
+    go : Dec (m ≡ 0) → Settles s i t x m c refl s c
+    go (yes e) = slot-empty s i t x m c refl e
+    go (no n) = let e : m - x ≡ m = omega arith in slot-left s i t x m c refl n d s (λ q. n (omega arith)) (rw e (sym (put-again s s (mask i) refl refl)))
 
 -- ---- the counts
 

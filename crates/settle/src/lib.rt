@@ -64,6 +64,11 @@ fn settle_slot(state: &mut [u8], t: ClockReading, s: SlotAddress, sent: u8, c: C
     ensures counts { λ r. ⌜ r ≡ slotCounts (now (state .entry)) (t .0) (s .0) sent c ⌝ }
     ensures after { λ _. ⌜ now (state .exit) ≡ slotAfter (now (state .entry)) (t .0) (s .0) sent ⌝ }
 {
+    if sent == 0 {
+        if area::get(state, Field::Deadline(s)) != t.0 {
+            return c;
+        }
+    }
     let mask = area::get(state, Field::Mask(s));
     if mask == 0 {
         return c;

@@ -1,0 +1,4 @@
+pub mod Stores
+pub mod Texts
+pub mod Questions
+pub mod Steps

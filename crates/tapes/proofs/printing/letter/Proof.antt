@@ -1,0 +1,13 @@
+-- `letter` meets its contract, by its test. Assumes nothing.
+use borrow.Author.Tests.{eq-eqb, ne-eqb}
+use Rattle.tapes.proofs.printing.letter.Statement.{statement}
+use Rattle.tapes.proofs.printing.letter.Tie as tie
+
+returns : tie.Need-returns
+returns c = rw (eq-eqb _ _ (c .if1 .taken))
+
+returns-2 : tie.Need-returns-2
+returns-2 c = rw (ne-eqb _ _ (c .if1 .left))
+
+pub letter-spec : {M : Type 1} → statement M
+letter-spec = tie.close (tie.spec returns returns-2)

@@ -1,0 +1,56 @@
+-- `number_digits` meets its contract. The loop's invariant: the digits of the rest and those divided away are all. The measure is the digits that may yet come.
+-- Assumes nothing.
+use Prim.Native.Nat.{suc, _≤_, _+_, _-_}
+use mathlib.Core.Path.{_≡_}
+use native.Mathlib.Omega.{arith}
+use lib.ListN.{length}
+use borrow.Author.Needs.{needs}
+use Rattle.tapes.specs.Lines.{atLeastSix, recordNumber}
+use Rattle.tapes.proofs.Texts.{length-short, length-long, length-last}
+use Rattle.tapes.proofs.printing.number_digits.Statement.{statement}
+use Rattle.tapes.proofs.printing.number_digits.Tie as tie
+
+abbrev Inv-loop : tie.InvT-loop
+Inv-loop number more₀ rest₀ more rest = (more ≤ 14) × (length (atLeastSix more rest) + 14 ≡ length (recordNumber number) + more)
+
+abbrev μ-loop : tie.MeasureT-loop
+μ-loop number more₀ rest₀ more rest = more
+
+loop-holds : tie.Need-loop-holds Inv-loop μ-loop
+loop-holds c = search needs
+
+sub-result : tie.Need-sub-result Inv-loop μ-loop
+sub-result c = search needs
+
+returns : tie.Need-returns Inv-loop μ-loop
+returns c = omega (arith, length-short (c .before .before .loop .more) (c .before .before .loop .rest) (c .if1 .taken))
+
+sub-more : tie.Need-sub-more Inv-loop μ-loop
+sub-more c = search needs
+
+loop-less : tie.Need-loop-less Inv-loop μ-loop
+loop-less c = search needs
+
+loop-again : tie.Need-loop-again Inv-loop μ-loop
+loop-again c = let l = c .before .before .loop in
+    let e : suc (l .more - 1) ≡ l .more = omega arith in
+    (search needs, omega (arith, rw e at (length-long (l .more - 1) (l .rest) (c .if1 .left))))
+
+returns-2 : tie.Need-returns-2 Inv-loop μ-loop
+returns-2 c = let l = c .before .loop in
+    let e : l .more ≡ 0 = omega arith in
+    omega (arith, l .inv .1, rw e at (l .inv .1), length-last (l .rest))
+
+pub number-digits-spec : {M : Type 1} → statement M
+number-digits-spec =
+    tie.close
+    (tie.spec
+    Inv-loop
+    μ-loop
+    loop-holds
+    sub-result
+    returns
+    sub-more
+    loop-less
+    loop-again
+    returns-2)

@@ -1,0 +1,74 @@
+-- `put_decimal` meets its contract. The loop's invariant: with the digits that are left stored, the area has the whole text. The measure is what is left of the width.
+-- Assumes nothing.
+use Prim.Native.Nat.{suc, _≤_, _-_}
+use mathlib.Core.Path.{_≡_, refl, _∙_}
+use native.Mathlib.Omega.{arith}
+use lib.ListN.{length, length-set}
+use lib.Seq.{sets}
+use borrow.Author.Needs.{needs}
+use Rattle.tapes.specs.Lines.{decimal}
+use Rattle.tapes.proofs.Texts.{length-decimal, digit-first}
+use Rattle.tapes.proofs.printing.put_decimal.Statement.{statement}
+use Rattle.tapes.proofs.printing.put_decimal.Tie as tie
+
+abbrev Inv-loop : tie.InvT-loop
+Inv-loop lines₀ at width value left₀ rest₀ lines left rest = (left ≤ width) × (length lines ≡ length lines₀) × (sets lines at (decimal left rest) ≡ sets lines₀ at (decimal width value))
+
+abbrev μ-loop : tie.MeasureT-loop
+μ-loop lines₀ at width value left₀ rest₀ lines left rest = left
+
+loop-holds : tie.Need-loop-holds Inv-loop μ-loop
+loop-holds c = (search needs, refl, refl)
+
+sub-left : tie.Need-sub-left Inv-loop μ-loop
+sub-left c = search needs
+
+cast-lines : tie.Need-cast-lines Inv-loop μ-loop
+cast-lines c = search needs
+
+add-lines : tie.Need-add-lines Inv-loop μ-loop
+add-lines c = search needs
+
+add-lines-2 : tie.Need-add-lines-2 Inv-loop μ-loop
+add-lines-2 c = search needs
+
+slice-write-lines : tie.Need-slice-write-lines Inv-loop μ-loop
+slice-write-lines c = search needs
+
+loop-less : tie.Need-loop-less Inv-loop μ-loop
+loop-less c = search needs
+
+loop-again : tie.Need-loop-again Inv-loop μ-loop
+loop-again c = let l = c .before .loop in
+    let e : suc (l .left - 1) ≡ l .left = omega arith in
+    (search needs, simp length-set (search needs), digit-first (l .lines) (c .before .before .args .at) (l .left - 1) (l .rest) ∙ rw e (l .inv .2))
+
+add-result : tie.Need-add-result Inv-loop μ-loop
+add-result c = search needs
+
+same-length : tie.Need-same-length Inv-loop μ-loop
+same-length c = search needs
+
+returns : tie.Need-returns Inv-loop μ-loop
+unfolding decimal
+returns c = let l = c .before .loop in
+    let e : l .left ≡ 0 = omega arith in
+    record { stored = rw e at (l .inv .2); ends = rw (length-decimal (c .before .before .args .width) (c .before .before .args .value)) }
+
+pub put-decimal-spec : {M : Type 1} → statement M
+put-decimal-spec =
+    tie.close
+    (tie.spec
+    Inv-loop
+    μ-loop
+    loop-holds
+    sub-left
+    cast-lines
+    add-lines
+    add-lines-2
+    slice-write-lines
+    loop-less
+    loop-again
+    add-result
+    same-length
+    returns)

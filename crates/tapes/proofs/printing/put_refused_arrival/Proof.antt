@@ -1,0 +1,46 @@
+-- `put_refused_arrival` meets its contract, by its test. Assumes nothing.
+use borrow.Author.Tests.{le-leb, lt-leb}
+use Rattle.tapes.specs.Tape.{refusedArrival}
+use Rattle.tapes.proofs.Stores.{put-nothing}
+use borrow.Author.Needs.{needs}
+use Rattle.tapes.proofs.printing.put_refused_arrival.Statement.{statement}
+use Rattle.tapes.proofs.printing.put_refused_arrival.Tie as tie
+
+add-byte : tie.Need-add-byte
+add-byte c = search needs
+
+byte-requires : tie.Need-byte-requires
+byte-requires c κs = search needs
+
+returns : tie.Need-returns
+unfolding refusedArrival
+returns c = rw (← c .before .byte .ensures, lt-leb _ _ (c .if1 .taken)) (put-nothing _ _)
+
+mul-put-refused : tie.Need-mul-put-refused
+mul-put-refused c = search needs
+
+array-read-put-refused : tie.Need-array-read-put-refused
+array-read-put-refused c = search needs
+
+put-refused-requires : tie.Need-put-refused-requires
+put-refused-requires c κs = search needs
+
+same-length : tie.Need-same-length
+same-length c = search needs
+
+returns-2 : tie.Need-returns-2
+unfolding refusedArrival
+returns-2 c = rw (← c .before .before .before .before .before .byte .ensures, le-leb _ _ (c .before .before .before .before .if1 .left)) (c .before .before .put-refused .ensures)
+
+pub put-refused-arrival-spec : {M : Type 1} → statement M
+put-refused-arrival-spec =
+    tie.close
+    (tie.spec
+    add-byte
+    byte-requires
+    returns
+    mul-put-refused
+    array-read-put-refused
+    put-refused-requires
+    same-length
+    returns-2)

@@ -1,0 +1,25 @@
+-- `put_ticked` meets its contract: the lines of the arrivals, then the tick's. Assumes nothing.
+use Rattle.tapes.specs.Tape.{tickedLines}
+use Rattle.tapes.proofs.Stores.{put-then}
+use Rattle.tapes.proofs.Texts.{length-arrivals}
+use borrow.Author.Needs.{needs}
+use native.Mathlib.Omega.{arith}
+use Rattle.tapes.proofs.printing.put_ticked.Statement.{statement}
+use Rattle.tapes.proofs.printing.put_ticked.Tie as tie
+
+put-refused-arrivals-requires : tie.Need-put-refused-arrivals-requires
+put-refused-arrivals-requires c κs = search needs
+
+put-tick-requires : tie.Need-put-tick-requires
+put-tick-requires c κs = omega (arith, c .before .before .before .put-refused-arrivals .ensures .ends, length-arrivals (c .before .before .before .before .before .before .before .before .args .records) (c .before .before .before .before .before .before .before .before .args .answers .now))
+
+same-length : tie.Need-same-length
+same-length c = search needs
+
+returns : tie.Need-returns
+unfolding tickedLines
+returns c = put-then (c .before .before .before .before .before .before .put-refused-arrivals .ensures) (c .before .before .put-tick .ensures)
+
+pub put-ticked-spec : {M : Type 1} → statement M
+put-ticked-spec =
+    tie.close (tie.spec put-refused-arrivals-requires put-tick-requires same-length returns)

@@ -1,0 +1,5 @@
+pub mod Lines
+pub mod Records
+pub mod Put
+pub mod Tape
+pub mod Values

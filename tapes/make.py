@@ -1,0 +1,136 @@
+#!/usr/bin/env python3
+"""make.py: writes the tapes of this folder, NAME.tape, and what second.py says of each, NAME.expected. make.py long N: a tape of N records to standard output."""
+import os, random, sys
+import second
+
+def record(*head):
+    return bytes(head) + bytes(24 - len(head))
+
+def control(register, value):
+    return record(0x43, register, value)
+
+def arrival(port, identifier, time, data=b""):
+    return record(0x41, port, 0, 0, identifier, time % 256, *data)
+
+def tick(best_effort=0):
+    return record(0x54, best_effort)
+
+def connect(incoming, outgoing, d, mask):
+    return control(0, outgoing) + control(1, d) + control(2, mask) + control(3, incoming)
+
+def horizon(mask, value):
+    return control(4, mask) + control(5, value)
+
+def refusals():
+    """Every number that a tape can meet: 3, 4, 5, 6, 7, 10, 11, 12, and 9 at the end (8 stands in full)."""
+    t = control(6, 0) + control(255, 1) + control(1, 128) + control(2, 32) + control(4, 32) + control(5, 128)
+    t += connect(5, 33, 10, 2)
+    t += arrival(0, 5, 0) + tick(32) + tick(255) + tick()
+    t += arrival(0, 6, 0) + arrival(1, 5, -11) + arrival(2, 5, 129) + arrival(3, 5, 128) + arrival(4, 5, 127) + tick()
+    t += record(0) + record(0x44, 1) + record(0x63) + bytes([0x55] * 24)
+    t += control(0, 1)[:23] + b"\x01" + record(0x43, 0, 1, 1) + record(0x54, 0, 1) + tick()[:23] + b"\xff"
+    t += record(0x41, 0, 1) + record(0x41, 0, 0, 1) + arrival(5, 5, 1) + arrival(255, 5, 1)
+    t += arrival(2, 5, 1) + arrival(2, 5, 1) + record(0x41, 2, 1) + tick() + arrival(2, 5, 1) + tick()
+    # 10 comes before 11, 11 before 12.
+    t += record(0x42, 9, 9, 9) + arrival(1, 5, 1) + record(0x41, 1, 0, 9) + record(0x41, 9, 0, 0)
+    return t + tick() + b"\x54" + bytes(10)
+
+def turns():
+    """The clock turns over four times, with packets stored across the turn."""
+    t = connect(1, 0xA1, 127, 1) + connect(2, 0xB2, 40, 2) + connect(3, 0xC3, 0, 4) + horizon(3, 96)
+    for n in range(1100):
+        if n % 16 == 8:
+            t += arrival(0, 1, n + 110)
+        if n % 32 == 24:
+            t += arrival(1, 2, n + 97) + arrival(2, 3, n)
+        if n % 64 == 50:
+            t += arrival(3, 1, n - 127) + arrival(4, 2, n - 41)
+        t += tick(0x1F if n % 256 in (254, 255, 0, 1) else 0)
+    return t
+
+def full():
+    """256 stored, the next refused with 8, though that tick frees a slot; then a place again."""
+    t = connect(9, 0x99, 100, 1) + connect(10, 0x10, 127, 31) + connect(11, 0x11, 90, 2)
+    for n in range(52):
+        for p in range(5 if n < 51 else 1):
+            t += arrival(p, 9, n + 120)
+        t += tick()
+    t += arrival(0, 11, 52) + arrival(1, 12, 52) + arrival(2, 11, 52 - 91) + tick()
+    t += b"".join(tick() for _ in range(66))
+    # On time now: port 0 sends one in this tick, and its slot is free only after it.
+    t += arrival(4, 11, 119) + tick() + arrival(4, 11, 120) + tick() + arrival(3, 11, 121) + arrival(4, 11, 121) + tick() + tick()
+    return t
+
+def multicast():
+    """Masks of several ports, sent in one tick or over several; the slot is next to be taken."""
+    t = connect(1, 0x01, 20, 31) + connect(2, 0x02, 5, 21) + connect(3, 0x03, 9, 10)
+    t += arrival(0, 1, 0) + tick() + arrival(0, 2, 1) + arrival(1, 3, 1) + tick()
+    t += arrival(0, 1, 2) + arrival(1, 1, 2) + arrival(2, 2, 2) + arrival(3, 3, 2) + arrival(4, 1, 4) + tick()
+    return t + b"".join(tick() for _ in range(8))
+
+def withdrawals():
+    """Several ports withdraw in one tick, up to 1,275 in all."""
+    t = connect(1, 0x77, 3, 31) + connect(2, 0x78, 0, 24)
+    for p in range(5):
+        t += arrival(p, 1, 0)
+    t += tick() + tick() + tick() + tick() + arrival(0, 2, 4) + arrival(1, 2, 4) + arrival(2, 1, 2) + tick() + tick()
+    # 256 wait for clock 70 with d 0: five leave, and all else goes.
+    t += connect(3, 0x79, 0, 31)
+    for n in range(52):
+        for p in range(5 if n < 51 else 1):
+            t += arrival(p, 3, 70)
+        t += tick(31)
+    return t + b"".join(tick(31) for _ in range(20))
+
+def best_effort():
+    """Best-effort holds a port against an early packet, and yields to one on time."""
+    t = connect(1, 0xEE, 30, 3) + horizon(3, 20)
+    t += arrival(0, 1, 10) + tick(1) + tick(3) + tick(2) + tick(0) + arrival(0, 1, 30) + tick(0)
+    t += b"".join(tick(31) for _ in range(24)) + b"".join(tick(0) for _ in range(12))
+    return t + arrival(0, 1, 61) + tick(0) + tick(0)
+
+def empty():
+    """Nothing, so nothing is printed."""
+    return b""
+
+def rest():
+    """23 bytes: 9 for record 1."""
+    return tick()[:23]
+
+def blocks(n=2100):
+    """More records than one reading takes, and a rest: ticks, arrivals and refusals by chance (fixed seed)."""
+    return chance(1, n) + b"A"
+
+def chance(seed, n):
+    r, t, clock = random.Random(seed), b"", 0
+    parts = [connect(i, r.randrange(256), r.randrange(128), r.randrange(32)) for i in range(16)] + [horizon(r.randrange(32), r.randrange(128)) for _ in range(4)]
+    t = b"".join(parts)
+    out, count = [t], len(t) // 24
+    while count < n:
+        k = r.randrange(20)
+        if k < 11:
+            out.append(arrival(r.randrange(5), r.randrange(18), clock + r.randrange(-140, 140), bytes(r.randrange(256) for _ in range(4))))
+        elif k < 18:
+            best = r.choice((0, 0, 0, 31, r.randrange(34)))
+            out.append(tick(best))
+            clock += best < 32
+        elif k == 18:
+            out.append(control(r.randrange(7), r.randrange(140)))
+        else:
+            out.append(bytes([r.choice((0x41, 0x43, 0x54, r.randrange(256))), r.randrange(6), r.randrange(2), r.randrange(2)]) + bytes(20))
+        count += 1
+    return b"".join(out)
+
+TAPES = [refusals, turns, full, multicast, withdrawals, best_effort, empty, rest, blocks]
+
+if __name__ == "__main__":
+    if sys.argv[1:2] == ["long"]:
+        sys.stdout.buffer.write(chance(int(sys.argv[2]), int(sys.argv[2])))
+    elif sys.argv[1:2] == ["numbers"]:
+        sys.stdout.buffer.write(record(0) * int(sys.argv[2]))
+    else:
+        for make in TAPES:
+            here = os.path.join(os.path.dirname(os.path.abspath(__file__)), make.__name__.replace("_", "-"))
+            tape = make()
+            open(here + ".tape", "wb").write(tape)
+            open(here + ".expected", "w").write("".join(second.lines(tape)))
