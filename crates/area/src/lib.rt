@@ -1,9 +1,9 @@
 // Fields of the state, a port's bit, and a copy: the leaves of the router's code.
 ghost use mathlib.Core.Path.{_≡_};
-ghost use Prim.Native.Nat.{_+_, _*_, _^_, _≤_, _<_};
+ghost use Prim.Native.Nat.{_+_, _≤_, _<_};
 ghost use lib.ListN.{length, getD, set};
 ghost use lib.Seq.{sets};
-ghost use Rattle.rules.specs.Areas.{has, without};
+ghost use Rattle.rules.specs.Areas.{has};
 ghost use Rattle.rules.specs.Board.{free};
 ghost use Rattle.rules.specs.Board8.{board8, table8};
 ghost use Rattle.area.specs.Fields.{the};
@@ -112,30 +112,4 @@ pub fn has_port(mask: u8, port: u8) -> bool
     ensures { λ r. ⌜ r ≡ has mask port ⌝ }
 {
     (mask >> port) % 2 == 1
-}
-
-// The mask of one port.
-fn bit(port: u8) -> u8
-    requires { ⌜ port < 5 ⌝ }
-    ensures { λ r. ⌜ r ≡ 2 ^ port ⌝ }
-{
-    match port {
-        0 => 1,
-        1 => 2,
-        2 => 4,
-        3 => 8,
-        _ => 16,
-    }
-}
-
-// The mask that a port has left.
-pub fn drop_port(mask: u8, port: u8) -> u8
-    requires { ⌜ port < 5 ⌝ }
-    ensures { λ r. ⌜ r ≡ without mask port ⌝ }
-{
-    if has_port(mask, port) {
-        mask - bit(port)
-    } else {
-        mask
-    }
 }

@@ -10,9 +10,9 @@ use lib.IntN.{pos, negℤ, _-ℤ_}
 use lib.Signed.{leZ, ltZ}
 use Rattle.rules.specs.Clock.{cut}
 use Rattle.rules.specs.Indices.{all}
-use Rattle.rules.specs.Areas.{byte, bits, half, packet, stamp, has}
+use Rattle.rules.specs.Areas.{byte, Bytes, bits, half, packet, stamp, has}
 use Rattle.rules.specs.Whole.{Router, TickCall}
-use Rattle.rules.specs.Calls.{Call, control, tick, wholeStep, Bytes, ByteCall, TrueTime, TrueTimes, Proper}
+use Rattle.rules.specs.Calls.{Call, control, tick, wholeStep, ByteCall, TrueTime, TrueTimes, Proper}
 use Rattle.rules.proofs.Booleans.{is-true, and-left, and-right}
 use Rattle.rules.proofs.IndexLaws.{all-at}
 
@@ -28,8 +28,8 @@ module _ (c : ℕ) where
 
   unfoldable pub isProperCall : Router → Call → Bool
   isProperCall r (control q v) = ltb q 256 && ltb v (2 ^ bits c)
-  isProperCall r (tick k) =
-      (ltb (k .arriving) 256 && (ltb (k .bestEffort) 256 && (areBytes (k .arrivals) && (areBytes (k .outgoing) && areBytes (k .answers)))))
+  isProperCall r (tick k out ans) =
+      (ltb (k .arriving) 256 && (ltb (k .bestEffort) 256 && (areBytes (k .arrivals) && (areBytes out && areBytes ans))))
       && all 5 (λ p. not (has (k .arriving) p) || isTrueTime r k p)
 
   unfoldable pub isProper : Router → List Call → Bool
@@ -53,17 +53,17 @@ module _ (c : ℕ) where
   byte-call : (r : Router) (k : Call) → isProperCall c r k ≡ true → ByteCall c k
   unfolding isProperCall ByteCall Bytes
   byte-call r (control q v) e = (below q 256 (and-left (ltb q 256) (ltb v (2 ^ bits c)) e), below v (2 ^ bits c) (and-right (ltb q 256) (ltb v (2 ^ bits c)) e))
-  byte-call r (tick k) e =
+  byte-call r (tick k out ans) e =
       let a = ltb (k .arriving) 256 in
       let b = ltb (k .bestEffort) 256 in
       let x = areBytes (k .arrivals) in
-      let y = areBytes (k .outgoing) in
-      let z = areBytes (k .answers) in
+      let y = areBytes out in
+      let z = areBytes ans in
       let e₁ = and-left (a && (b && (x && (y && z)))) (all 5 (λ p. not (has (k .arriving) p) || isTrueTime c r k p)) e in
       let e₂ = and-right a (b && (x && (y && z))) e₁ in
       let e₃ = and-right b (x && (y && z)) e₂ in
       let e₄ = and-right x (y && z) e₃ in
-      (below (k .arriving) 256 (and-left a (b && (x && (y && z))) e₁), below (k .bestEffort) 256 (and-left b (x && (y && z)) e₂), are-bytes (k .arrivals) (and-left x (y && z) e₃), are-bytes (k .outgoing) (and-left y z e₄), are-bytes (k .answers) (and-right y z e₄))
+      (below (k .arriving) 256 (and-left a (b && (x && (y && z))) e₁), below (k .bestEffort) 256 (and-left b (x && (y && z)) e₂), are-bytes (k .arrivals) (and-left x (y && z) e₃), are-bytes out (and-left y z e₄), are-bytes ans (and-right y z e₄))
 
   true-time : (r : Router) (k : TickCall) (p : ℕ) → isTrueTime c r k p ≡ true → TrueTime c r k p
   unfolding isTrueTime
@@ -81,9 +81,9 @@ module _ (c : ℕ) where
   true-times : (r : Router) (k : Call) → isProperCall c r k ≡ true → TrueTimes c r k
   unfolding isProperCall TrueTimes
   true-times r (control q v) e = tt
-  true-times r (tick k) e =
+  true-times r (tick k out ans) e =
       let f : ℕ → Bool = λ p. not (has (k .arriving) p) || isTrueTime c r k p in
-      let l = ltb (k .arriving) 256 && (ltb (k .bestEffort) 256 && (areBytes (k .arrivals) && (areBytes (k .outgoing) && areBytes (k .answers)))) in
+      let l = ltb (k .arriving) 256 && (ltb (k .bestEffort) 256 && (areBytes (k .arrivals) && (areBytes out && areBytes ans))) in
       λ n p h t. true-time r k p (implied (has (k .arriving) p) (isTrueTime c r k p) (all-at f 5 p (and-right l (all 5 f) e) h) t)
 
   -- What passes the test is proper.

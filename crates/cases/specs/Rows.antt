@@ -175,7 +175,7 @@ slotOf (onTime (i, x)) = onTime i
 slotOf (early (i, x)) = early i
 
 abbrev pub call : Row → TickCall
-call r = record { arriving = 1; bestEffort = 0; arrivals = arrivals (r .time); outgoing = replicate 100 0; answers = replicate 20 0; times = λ p. r .u }
+call r = record { arriving = 1; bestEffort = 0; arrivals = arrivals (r .time); times = λ p. r .u }
 
 unfoldable pub onWhole : Row → Met
 onWhole r =

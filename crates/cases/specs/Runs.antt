@@ -31,7 +31,7 @@ abbrev pub nines : ℕ → List ℕ
 nines n = replicate n 9
 
 abbrev pub ticking : ℕ → ℕ → List ℕ → List ℤ → Call
-ticking arriving waiting area u = tick (record { arriving = arriving; bestEffort = waiting; arrivals = area; outgoing = nines 100; answers = nines 20; times = λ p. getD u p (pos 0) })
+ticking arriving waiting area u = tick (record { arriving = arriving; bestEffort = waiting; arrivals = area; times = λ p. getD u p (pos 0) }) (nines 100) (nines 20)
 
 -- Replies to four control writes, to an accepted tick and to a refused one.
 abbrev pub connected : List Reply → List Reply

@@ -7,7 +7,7 @@ use mathlib.Core.List.{List}
 use mathlib.Core.Option.{Option, none, some}
 use native.Mathlib.Decide.{decLt}
 use native.Mathlib.Omega.{arith}
-use lib.ListN.{getD, replicate, getD-replicate}
+use lib.ListN.{replicate, getD-replicate}
 use lib.Dec.{ltb}
 use lib.IntN.{pos}
 use lib.Signed.{leZ, ltZ}

@@ -42,10 +42,3 @@ pub fn in_time(time: ClockReading, t: ClockReading, d: u8) -> bool
     }
     256 - (x as u16) <= d as u16
 }
-
-// The offset is at most 126.
-pub fn near(time: ClockReading, t: ClockReading) -> bool
-    ensures { λ r. ⌜ r ≡ leZ (offset (bits 1) (time .0) (t .0)) (pos 126) ⌝ }
-{
-    since(time, t) != 127
-}

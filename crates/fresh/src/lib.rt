@@ -49,8 +49,6 @@ impl Router {
 
     pub const PORTS: usize = 5;
 
-    pub const CONNECTIONS: usize = 256;
-
     pub const PACKET: usize = 20;
 
     pub const STATE: usize = 1804;

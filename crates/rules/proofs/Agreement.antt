@@ -50,7 +50,7 @@ unfolding all distinct elem rising stored count counted isHeld
 start-kept = record { once = refl; places = λ i e. let h = elem-rising i 0 256 e in omega arith; idle = λ i l. all-at (λ i. elem i (rising 0 256)) 256 i refl l; all = refl }
 
 -- Nothing is held, all places are free, and every setting is 0.
-start-good : (c t : ℕ) → Good c (start t)
+pub start-good : (c t : ℕ) → Good c (start t)
 unfolding start
 start-good c t = record {
   settings = record { entry = λ i l. record { delay = half-pos c; mask = omega arith }; horizon = λ p l. half-pos c; latch = record { delay = half-pos c; mask = omega arith }; ports = omega arith };
@@ -72,7 +72,7 @@ module _ (B : Board) (L : Laws B) where
   open Board B using (clockBytes as c, stateLength, get, put, freshState)
 
   -- The fresh state reads as the router at its start, field by field.
-  fresh-rel : (t : ℕ) → t < 2 ^ bits c → Rel B L (fresh B t) (start t)
+  pub fresh-rel : (t : ℕ) → t < 2 ^ bits c → Rel B L (fresh B t) (start t)
   unfolding fresh start stack
   fresh-rel t h = record {
     settled = record {
@@ -102,9 +102,9 @@ module _ (B : Board) (L : Laws B) where
     unfolding controlRefusal refusal
     control-number register v = rw (rel-full B L R G, rel-sound B L R G)
 
-    tick-number : (k : TickCall) → tickRefusal B r (k .arriving) (k .bestEffort) (k .arrivals) (k .outgoing) (k .answers) ≡ refusal c (tick k)
+    tick-number : (k : TickCall) (out ans : List ℕ) → tickRefusal B r (k .arriving) (k .bestEffort) (k .arrivals) out ans ≡ refusal c (tick k out ans)
     unfolding tickRefusal refusal
-    tick-number k = rw (rel-full B L R G, rel-sound B L R G)
+    tick-number k out ans = rw (rel-full B L R G, rel-sound B L R G)
 
     -- Both questions are passed.
     control-passed : (register v : ℕ) → refusal c (control register v) ≡ 0 → (leb register 5 ≡ true) × (fits c register v ≡ true)
@@ -126,7 +126,7 @@ module _ (B : Board) (L : Laws B) where
             let (p, q) = control-passed register v (eqb-true (refusal c (control register v)) 0 e) in
             let l = leb-true register 5 p in
             record { rel = write-rel B L R (G .kept) register v l q; good = settings-good c w G register v l q; reply = refl; runs = λ S. quiet refl refl S }
-    agree (tick k) hb ht = rw (tick-number k) (decided (eqb (refusal c (tick k)) 0) accepted (record { rel = R; good = G; reply = refl; runs = λ S. S }))
+    agree (tick k out ans) hb ht = rw (tick-number k out ans) (decided (eqb (refusal c (tick k out ans)) 0) accepted (record { rel = R; good = G; reply = refl; runs = λ S. S }))
       where
         t : Outcome
         t = Tick.ticked B r (k .arriving) (k .bestEffort) (k .arrivals)
@@ -134,23 +134,23 @@ module _ (B : Board) (L : Laws B) where
         d : Done
         d = record { met = w; call = k; report = ticked c w k .report; outgoing = t .reply .outgoing }
 
-        accepted : eqb (refusal c (tick k)) 0 ≡ true → Agree w (tick k) t (accept c w (tick k))
+        accepted : eqb (refusal c (tick k out ans)) 0 ≡ true → Agree w (tick k out ans) t (accept c w (tick k out ans))
         accepted e =
-            let I = input-of c w k hb ht (eqb-true (refusal c (tick k)) 0 e) in
+            let I = input-of c w k out ans hb ht (eqb-true (refusal c (tick k out ans)) 0 e) in
             let u : Ticking c d = record { good = G; input = I; report = refl; sends = sends-same B L R G k I } in
             record { rel = tick-rel B L R G k I; good = next-good c u; reply = reply-same B L R G k I; runs = λ S. ticks d u S }
 
   -- ---- a list of calls
 
   -- The two runs agree: relation, replies, and what was noted makes a run.
-  record Agreed (r : Store) (w : Router) (ks : List Call) : Type 0 where
-    rel : Rel B L (storeAfter B r ks) (routerAfter c w ks)
-    good : Good c (routerAfter c w ks)
-    replies : byteReplies B r ks ≡ wholeReplies c w ks
-    run : Run c w (history B r w ks) (routerAfter c w ks)
+  pub record Agreed (r : Store) (w : Router) (ks : List Call) : Type 0 where
+    pub rel : Rel B L (storeAfter B r ks) (routerAfter c w ks)
+    pub good : Good c (routerAfter c w ks)
+    pub replies : byteReplies B r ks ≡ wholeReplies c w ks
+    pub run : Run c w (history B r w ks) (routerAfter c w ks)
 
   -- Call by call.
-  agreed : (ks : List Call) {r : Store} {w : Router} → Rel B L r w → Good c w → Proper c w ks → Agreed r w ks
+  pub agreed : (ks : List Call) {r : Store} {w : Router} → Rel B L r w → Good c w → Proper c w ks → Agreed r w ks
   unfolding storeAfter routerAfter byteReplies wholeReplies history Proper
   agreed [] R G P = record { rel = R; good = G; replies = refl; run = rest G }
   agreed (k ∷ ks) R G P =

@@ -1,13 +1,14 @@
 -- Stores into byte areas, the packets in them, and numbers as bytes. Assumes nothing.
 use Prim.Native.Nat.{ℕ, zero, suc, _+_, _-_, _*_, _/_, _%_, _^_, _<_, _≤_}
-use mathlib.Core.Path.{_≡_, refl, sym, ap, ap₂, _∙_}
+use mathlib.Core.Path.{_≡_, refl, sym, ap, ap₂, subst, _∙_}
 use mathlib.Core.Logic.{_≢_}
 use mathlib.Core.List.{List, [], _∷_, _++_, append-assoc}
-use native.Mathlib.Nat.{div-add-mod', mod-one}
+use native.Mathlib.Nat.{div-add-mod', mod-one, mod-eq-of-lt, div-eq-of-lt, mul-add-div-right, mul-add-mod-self-right, mul-le-mul-right, pow-suc}
 use native.Mathlib.Omega.{arith}
-use lib.ListN.{length, take, drop, set, length-append, length-take, length-drop}
+use lib.Pow.{pow-add}
+use lib.ListN.{length, take, drop, set, length-append, length-take, length-drop, take-append-drop}
 use lib.Seq.{getD-set-other, sets, length-sets, sets-eq, getD-take, getD-drop, ext-getD, take-at, drop-at, length-take-le, drop-append-add, take-all}
-use Rattle.rules.specs.Areas.{byte, value, digits, packet, packed, perPort}
+use Rattle.rules.specs.Areas.{byte, Bytes, low, bits, value, digits, packet, stamp, payload, packed, perPort}
 
 -- ---- a run of stores
 
@@ -41,6 +42,16 @@ part-other s vs i j n h =
 
 -- ---- packets
 
+-- A packet inside its area has 20 bytes.
+pub length-packet : (area : List ℕ) (i : ℕ) → 20 * i + 20 ≤ length area → length (packet area i) ≡ 20
+unfolding packet
+length-packet area i h = length-take-le 20 (drop (20 * i) area) (omega (arith, length-drop (20 * i) area))
+
+-- Its data are what the identifier and the time leave.
+pub length-payload : (c : ℕ) (k : List ℕ) → length k ≡ 20 → length (payload c k) ≡ 20 - (1 + c)
+unfolding payload
+length-payload c k e = length-drop (1 + c) k ∙ ap (λ (n : ℕ). n - (1 + c)) e
+
 -- The packet written is there.
 pub packet-same : (m ds : List ℕ) (i : ℕ) → length m ≡ 5120 → i < 256 → length ds ≡ 20 → packet (sets m (20 * i) ds) i ≡ ds
 unfolding packet
@@ -69,10 +80,67 @@ value-digits (suc (suc k)) v h =
     let d = div-add-mod' v (256 ^ suc k) in
     ap₂ (λ (n x : ℕ). v / 256 ^ suc k * 256 ^ n + x) (length-digits (suc k) (v % 256 ^ suc k)) e ∙ d
 
+-- A number of k bytes is below 256 ^ k.
+pub value-lt : (l : List ℕ) → Bytes l → value l < 256 ^ length l
+unfolding value Bytes
+value-lt [] h = omega arith
+value-lt (x ∷ l) h =
+    let a = value-lt l (λ i m. h (suc i) (omega arith)) in
+    let b : x < 256 = h 0 (omega arith) in
+    let d = mul-le-mul-right {m = x} {n = 255} (256 ^ length l) (omega arith) in
+    let e = pow-suc 256 (length l) in
+    omega arith
+
+-- Its bytes are those that made it.
+pub digits-value : (l : List ℕ) → Bytes l → digits (length l) (value l) ≡ l
+unfolding value digits Bytes
+digits-value [] h = refl
+digits-value (x ∷ l) h =
+    let m = 256 ^ length l in
+    let v = value-lt l (λ i n. h (suc i) (omega arith)) in
+    let q : (x * m + value l) / m ≡ x = mul-add-div-right {m = m} (omega arith) x (value l) ∙ omega (arith, div-eq-of-lt v) in
+    let r : (x * m + value l) % m ≡ value l = mul-add-mod-self-right x m (value l) ∙ mod-eq-of-lt v in
+    ap₂ (λ (n : ℕ) (k : List ℕ). n ∷ k) q (ap (digits (length l)) r ∙ digits-value l (λ i n. h (suc i) (omega arith)))
+
+-- A part of bytes is bytes, and the number that they make is below 256 to their count.
+pub bytes-part : (n i : ℕ) (l : List ℕ) → Bytes l → Bytes (take n (drop i l))
+unfolding Bytes
+bytes-part n i l h j m =
+    let e = length-take n (drop i l) in
+    let f = length-drop i l in
+    subst (λ (x : ℕ). x < 256) (sym (getD-take n (drop i l) j 0 (omega arith) ∙ getD-drop i l j 0)) (h (i + j) (omega arith))
+
+pub part-lt : (n i : ℕ) (l : List ℕ) → Bytes l → i + n ≤ length l → value (take n (drop i l)) < 256 ^ n
+part-lt n i l h m =
+    let e : length (take n (drop i l)) ≡ n = length-take-le n (drop i l) (omega (arith, length-drop i l)) in
+    subst (λ (k : ℕ). value (take n (drop i l)) < 256 ^ k) e (value-lt (take n (drop i l)) (bytes-part n i l h))
+
+-- By induction over the bytes.
+byte-bits : (c : ℕ) → 256 ^ c ≡ 2 ^ (8 * c)
+byte-bits zero = refl
+byte-bits (suc c) =
+    let e : 2 ^ (8 * c + 8) ≡ 2 ^ (8 * c) * 256 = pow-add 2 (8 * c) 8 in
+    pow-suc 256 c ∙ ap (λ (n : ℕ). n * 256) (byte-bits c) ∙ sym e ∙ ap (λ (n : ℕ). 2 ^ n) (omega arith)
+
+-- A clock reading of c bytes has all their bits.
+pub full-bits : (c : ℕ) → 0 < c → 256 ^ c ≡ 2 ^ bits c
+unfolding bits low
+full-bits c h = byte-bits c ∙ ap (λ (n : ℕ). 2 ^ n) (omega arith)
+
 -- A packed packet has 20 bytes.
 pub length-packed : (c i v : ℕ) (l : List ℕ) → length l ≡ 20 - (1 + c) → c < 20 → length (packed c i v l) ≡ 20
 unfolding packed
 length-packed c i v l e h = ap suc (length-append (digits c v) l) ∙ omega (arith, length-digits c v)
+
+-- A packet of bytes is made of its identifier, time and data.
+pub packed-parts : (c : ℕ) (k : List ℕ) → Bytes k → length k ≡ 20 → c < 20 → packed c (byte k 0) (stamp c k) (payload c k) ≡ k
+unfolding packed stamp payload
+packed-parts c [] b e h = absurd (omega arith)
+packed-parts c (x ∷ l) b e h =
+    let n : length (take c l) ≡ c = length-take-le c l (omega arith) in
+    let d : digits c (value (take c l)) ≡ take c l = ap (λ (n : ℕ). digits n (value (take c l))) (sym n) ∙ digits-value (take c l) (bytes-part c 1 (x ∷ l) b) in
+    let s : 1 + c ≡ suc c = omega arith in
+    rw (s, d) (ap (λ (m : List ℕ). x ∷ m) (take-append-drop c l))
 
 -- ---- five packets, one after the other
 

@@ -10,7 +10,7 @@ use Rattle.rules.specs.Areas.{value, digits}
 use Rattle.rules.specs.Board.{Field, clock, horizon, latch, free, idle, getAt}
 use Rattle.rules.specs.Board8.{table8, fresh8, board8}
 use Rattle.rules.specs.Indices.{all, topFirst}
-use Rattle.rules.proofs.BoardLaws.{Laws, freshField}
+use Rattle.rules.proofs.BoardLaws.{Laws, freshField, width}
 use Rattle.rules.proofs.TableLaws.{field, each, owned, lawful-table}
 
 -- Whose byte stands at offset o.
@@ -28,10 +28,14 @@ blank8 : each (λ f. eqb (getAt table8 (digits 1 0 ++ fresh8) f) (freshField 0 f
 unfolding each all getAt value digits fresh8 topFirst
 blank8 = refl
 
+wide8 : each (λ f. eqb (table8 f .1) (width 1 f)) ≡ true
+unfolding each all
+wide8 = refl
+
 whole8 : 1 + length fresh8 ≡ 1804
 unfolding fresh8 topFirst
 whole8 = refl
 
 -- By its tests.
 pub lawful8 : Laws board8
-lawful8 = lawful-table 1 1804 table8 fresh8 (record { some-bytes = omega arith; few-bytes = omega arith; owner = owner8; owners = owned8; first = refl; wide = refl; whole = whole8; blank = blank8 })
+lawful8 = lawful-table 1 1804 table8 fresh8 (record { some-bytes = omega arith; few-bytes = omega arith; owner = owner8; owners = owned8; first = refl; wide = wide8; whole = whole8; blank = blank8 })

@@ -1,10 +1,11 @@
--- What the proofs use of a board: a store changes its field and no other. Assumes nothing.
-use Prim.Native.Nat.{ℕ, _-_, _<_}
+-- What the proofs use of a board: its fields, how many and how wide, and the laws of reading and storing them. Assumes nothing.
+use Prim.Native.Nat.{ℕ, _-_, _^_, _<_}
 use mathlib.Core.Path.{_≡_}
 use mathlib.Core.Bool.{Bool, cond, _&&_, _||_}
 use mathlib.Core.List.{List}
 use lib.ListN.{length}
 use lib.Dec.{eqb}
+use Rattle.rules.specs.Areas.{Bytes}
 use Rattle.rules.specs.Board.{Board, Field, clock, horizon, latch, free, idle, time, deadline, mask, outgoing, delay, routes}
 
 -- A field's kind, and its index within the kind.
@@ -47,15 +48,30 @@ extent f = cond (alike f clock || alike f free) 1 (cond (alike f (horizon 0)) 5 
 abbrev pub Valid : Field → Type 0
 Valid f = index f < extent f
 
+-- The bytes of a field where a clock reading has c: times, delays and horizons are as wide as the clock, and so is register 1; the free count has two.
+abbrev pub width : ℕ → Field → ℕ
+width c clock = c
+width c (horizon p) = c
+width c (latch r) = cond (eqb r 1) c 1
+width c free = 2
+width c (idle i) = 1
+width c (time i) = c
+width c (deadline i) = c
+width c (mask i) = 1
+width c (outgoing i) = 1
+width c (delay i) = c
+width c (routes i) = 1
+
 -- What stands in a field of a fresh router: the clock reading t, n = 256, stack entry i holding 255 - i, zero elsewhere.
 abbrev pub freshField : ℕ → Field → ℕ
 freshField t f = cond (alike f clock) t (cond (alike f free) 256 (cond (alike f (idle 0)) (255 - index f) 0))
 
--- What the proofs use of a board: a store changes its field and no other.
+-- A store changes its field and no other, and a state of bytes reads in each field what its bytes can hold.
 pub record Laws (B : Board) : Type 0 where
   pub some-bytes : 0 < B .clockBytes
   pub few-bytes : B .clockBytes < 20
   pub length-put : (s : List ℕ) (f : Field) (v : ℕ) → length (B .put s f v) ≡ length s
   pub get-put : (s : List ℕ) (f : Field) (v : ℕ) (g : Field) → length s ≡ B .stateLength → Valid f → Valid g → B .get (B .put s f v) g ≡ cond (same f g) v (B .get s g)
+  pub get-lt : (s : List ℕ) (f : Field) → Bytes s → length s ≡ B .stateLength → Valid f → B .get s f < 256 ^ width (B .clockBytes) f
   pub length-fresh : (t : ℕ) → length (B .freshState t) ≡ B .stateLength
   pub get-fresh : (t : ℕ) (f : Field) → Valid f → B .get (B .freshState t) f ≡ freshField t f

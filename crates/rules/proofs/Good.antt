@@ -1,11 +1,11 @@
 -- What holds of the router that never turns over throughout a proper list of calls: places are kept, and times and settings are in range. Assumes nothing.
-use Prim.Native.Nat.{ℕ, zero, suc, _+_, _-_, _*_, _<_, _≤_}
+use Prim.Native.Nat.{ℕ, zero, suc, _+_, _-_, _<_, _≤_}
 use mathlib.Core.Path.{_≡_, refl, sym, ap, subst, _∙_}
 use mathlib.Core.Bool.{Bool, true, false, _&&_, and-true}
 use mathlib.Core.List.{List, _∷_}
 use mathlib.Core.Option.{some}
 use native.Mathlib.Omega.{arith}
-use lib.ListN.{length, drop, length-drop, length-take}
+use lib.ListN.{length}
 use lib.Dec.{T}
 use lib.IntN.{ℤ, pos, negℤ, sucℤ, _+ℤ_, _-ℤ_}
 use lib.Signed.{leZ, ltZ}
@@ -16,6 +16,7 @@ use Rattle.rules.specs.Clock.{cut}
 use Rattle.rules.specs.Whole.{Packet, Held, Entry, Router, TickCall, withPlaces, advanced, accepted, grant, lose, served, isDue, emptied, meets, arrivals, isHeld}
 use Rattle.rules.proofs.Booleans.{some-inj}
 use Rattle.rules.proofs.Integers.{orders, diff-nat, suc-nat, not-lt, not-le}
+use Rattle.rules.proofs.AreaLaws.{length-packet, length-payload}
 use Rattle.rules.proofs.Masks.{without-le}
 use Rattle.rules.proofs.WholeLaws.{AllHeld, fresh-held, loses, put-all, lose-all, stored-in, lost-in, admitted-by, sent-by, Made, arrival-made, kept-take, kept-same, held-put, held-lose, emptied-kept, emptied-frame, emptied-held}
 use Rattle.rules.proofs.Grants.{grant-rests}
@@ -79,11 +80,6 @@ pub record Input (c : ℕ) (t : ℤ) (call : TickCall) : Type 0 where
   pub soon : (p : ℕ) → p < 5 → has (call .arriving) p ≡ true → T (ltZ (call .times p -ℤ t) (pos (half c)))
   pub from : (p : ℕ) → p < 5 → has (call .arriving) p ≡ true → T (leZ (negℤ (pos (half c))) (call .times p -ℤ t))
   pub header : (p : ℕ) → p < 5 → has (call .arriving) p ≡ true → stamp c (packet (call .arrivals) p) ≡ cut (bits c) (call .times p)
-
--- A packet of a whole area has 20 bytes.
-pub length-packet : (area : List ℕ) (p : ℕ) → length area ≡ 100 → p < 5 → length (packet area p) ≡ 20
-unfolding packet
-length-packet area p e h = rw (length-take 20 (drop (20 * p) area), length-drop (20 * p) area) (omega arith)
 
 module _ (c : ℕ) (w : Router) (call : TickCall) where
   -- The router after the arrivals below p.
@@ -179,7 +175,6 @@ module _ (c : ℕ) (w : Router) (call : TickCall) (G : Good c w) (I : Input c (w
 
   -- By the questions that it passed, its delay and mask from an entry in range.
   accepted-fit : (p : ℕ) → p < 5 → (x : Packet) → meets c call (at p) p ≡ accepted x → HeldFit c (w .clock) (half c) (fresh-held x)
-  unfolding payload
   accepted-fit p l x e =
       let m = accepted-made c w call p x e in
       let i = byte (packet (call .arrivals) p) 0 in
@@ -191,7 +186,7 @@ module _ (c : ℕ) (w : Router) (call : TickCall) (G : Good c w) (I : Input c (w
           due = not-lt (call .times p +ℤ pos (w .entry i .delay)) (w .clock) (m .in-time);
           soon = I .soon p l (m .here);
           arrived = omega (arith, orders);
-          size = length-drop (1 + c) (packet (call .arrivals) p) ∙ ap (λ (n : ℕ). n - (1 + c)) (length-packet (call .arrivals) p (I .whole) l);
+          size = length-payload c (packet (call .arrivals) p) (length-packet (call .arrivals) p (let e = I .whole in omega arith));
         };
         left = G .settings .entry i (I .identifier p l) .mask;
       })

@@ -26,6 +26,7 @@ pub mod RunAccounts
 pub mod RunPrompt
 pub mod Agreement
 pub mod Feed
-pub mod Theorem
 pub mod Soundness
 pub mod Room
+pub mod SoundKept
+pub mod Theorem

@@ -1,36 +1,38 @@
 -- The relation makes the store sound, and a tick keeps it with equal replies. Assumes nothing.
 use Prim.Native.Nat.{ℕ, _-_, _/_, _%_, _<_}
 use mathlib.Core.Path.{_≡_, refl, sym, ap, ap₂, _∙_}
-use mathlib.Core.Bool.{Bool, true, not, _&&_, _||_}
+use mathlib.Core.Bool.{true, not, Bool·not-not}
+use mathlib.Core.Logic.{_≢_}
 use mathlib.Core.List.{List, [], _∷_, _++_}
 use mathlib.Core.Option.{Option, none, some}
 use native.Mathlib.Omega.{arith}
 use lib.ListN.{length, length-replicate}
 use lib.Seq.{take-at}
-use lib.Dec.{leb, ltb, eqb}
-use lib.IntN.{ℤ, pos, negℤ, sucℤ, _-ℤ_}
-use lib.Signed.{leZ}
-use borrow.Author.Tests.{eq-eqb, ne-eqb, le-leb, lt-ltb, lt-ltb}
-use Rattle.rules.specs.Account.{Kept}
+use lib.Dec.{eqb}
+use lib.IntN.{sucℤ, _-ℤ_}
+use borrow.Author.Tests.{eq-eqb, ne-eqb}
+use Rattle.rules.specs.Account.{Kept, stored}
 use Rattle.rules.specs.Areas.{bits, half, value, digits, packet, stamp, packed, perPort, answersArea, Grant, nobody, bestEffort, onTime, early, elem, distinct, Store}
 use Rattle.rules.specs.Board.{Board, clock, horizon, latch, free, idle, time, deadline, mask, outgoing, delay, routes}
 use Rattle.rules.specs.Clock.{cut, plus, minus, offset}
-use Rattle.rules.specs.Questions.{settingsSound, connectionSound, horizonSound, stackSound, listed, slotsSound, stack, slotSound, sound, full}
+use Rattle.rules.specs.Questions.{sound, full}
+use Rattle.rules.specs.SoundKept.{held, Intact}
 use Rattle.rules.specs.Tick.{arrived, served, withdrawn, returned}
 use Rattle.rules.specs.Whole.{Held, Router, TickCall, settings, emptied, packetBytes, outgoingBytes, answerBytes, isHeld}
 use Rattle.rules.proofs.BoardLaws.{Laws}
 use Rattle.rules.specs.Tick as Tick
 use Rattle.rules.specs.Whole as Whole
-use Rattle.rules.proofs.Booleans.{and-both, or-right, eq-beq, true-is}
-use Rattle.rules.proofs.IndexLaws.{all-true}
+use Rattle.rules.proofs.Booleans.{and-both}
+use Rattle.rules.proofs.IndexLaws.{count-same}
 use Rattle.rules.proofs.Integers.{orders}
 use Rattle.rules.proofs.WholeLaws.{AllHeld, emptied-kept}
 use Rattle.rules.proofs.Grants.{Rests, grant-rests, waiting-held}
 use Rattle.rules.proofs.Good.{Fit, HeldFit, Busy, Good, Input, fit-more, after, arrivals-busy, serving, served-held, served-kept, served-fit, fit-then}
 use Rattle.rules.proofs.TimeLaws.{cut-suc, fit-offset, fit-delay, fit-from}
 use Rattle.rules.proofs.AreaLaws.{value-digits, length-digits, length-packed, packet-perPort}
+use Rattle.rules.proofs.Soundness.{StoredSound, delayOf, offsetOf, lists-sound, sound-iff}
 use Rattle.rules.proofs.StateLaws.{reads-self, reads-as, reads-put, reads-off}
-use Rattle.rules.proofs.Relation.{on-settings, Settled, Here, Rel, with-state, rel-room, rel-settings}
+use Rattle.rules.proofs.Relation.{on-settings, Settled, Here, Rel, with-state, rel-free, rel-room, rel-settings}
 use Rattle.rules.proofs.RefineArrivals.{arrived-rel, arrived-code}
 use Rattle.rules.proofs.RefineServed.{served-rel, served-bytes, served-code}
 use Rattle.rules.proofs.RefineEmptied.{ended-rel, withdrawals-same}
@@ -70,65 +72,53 @@ module _ (B : Board) (L : Laws B) where
 
     -- ---- the store is sound
 
-    -- An empty slot has mask 0; a packet's readings are its times cut, and these are in range.
-    slot-sound : (i : ℕ) → i < 256 → slotSound B r i ≡ true
-    unfolding slotSound
-    slot-sound i l = go (w .place i) refl (R .place i l)
+    -- A slot with a mask shows a packet: its readings are its times cut, and these are in range.
+    stored-sound : (i : ℕ) → i < 256 → get s (mask i) ≢ 0 → StoredSound B r i
+    stored-sound i l n = go (w .place i) refl (R .place i l)
       where
-        d : ℕ
-        d = minus (bits c) (get s (deadline i)) (get s (time i))
-
-        o : ℤ
-        o = offset (bits c) (get s (time i)) (get s clock)
-
-        fits : Bool
-        fits = leb (get s (mask i)) 31 && ltb d (half c) && leZ (negℤ (pos d)) o && leZ o (pos (half c - 2)) && eqb (stamp c (packet (r .memory) i)) (get s (deadline i))
-
-        go : (v : Option Held) → w .place i ≡ v → Here B L r i v → (eqb (get s (mask i)) 0 || fits) ≡ true
-        go none e h = ap (λ (b : Bool). b || fits) (eq-eqb (get s (mask i)) 0 h)
+        go : (v : Option Held) → w .place i ≡ v → Here B L r i v → StoredSound B r i
+        go none e h = absurd (n h)
         go (some x) e H =
             let F = G .fit i l x e in
             let y = x .packet in
             let F′ : Fit c (w .clock) (half c) y = fit-more c (w .clock) (half c - 1) (half c) y (omega arith) (F .fit) in
-            let ed : d ≡ F′ .delay = ap₂ (minus (bits c)) (H .deadline) (H .time) ∙ fit-delay c (w .clock) y F′ in
-            let eo : o ≡ y .time -ℤ w .clock = ap₂ (offset (bits c)) (H .time) (S .same clock refl (omega arith)) ∙ fit-offset c (w .clock) y F′ in
+            let ed : delayOf B s i ≡ F′ .delay = ap₂ (minus (bits c)) (H .deadline) (H .time) ∙ fit-delay c (w .clock) y F′ in
+            let eo : offsetOf B s i ≡ y .time -ℤ w .clock = ap₂ (offset (bits c)) (H .time) (S .same clock refl (omega arith)) ∙ fit-offset c (w .clock) y F′ in
             let soon = F .fit .soon in
-            let five = le-leb (get s (mask i)) 31 (omega (arith, H .left, F .left)) in
-            let small = lt-ltb d (half c) (omega (arith, ed, F′ .small)) in
-            let from : leZ (negℤ (pos d)) o ≡ true = ap₂ (λ (n : ℕ) (z : ℤ). leZ (negℤ (pos n)) z) ed eo ∙ true-is (leZ (negℤ (pos (F′ .delay))) (y .time -ℤ w .clock)) (fit-from c (w .clock) y F′) in
-            let to : leZ o (pos (half c - 2)) ≡ true = rw eo (true-is (leZ (y .time -ℤ w .clock) (pos (half c - 2))) (omega (arith, orders))) in
-            let header = eq-eqb (stamp c (packet (r .memory) i)) (get s (deadline i)) (ap (stamp c) (H .bytes) ∙ stamp-bytes c y (L .some-bytes) ∙ sym (H .deadline)) in
-            or-right (eqb (get s (mask i)) 0) fits (rw (five, small, from, to) header)
+            record {
+              ports = omega (arith, H .left, F .left);
+              in-range = omega (arith, ed, F′ .small);
+              not-late = record { le = rw (ed, eo) (fit-from c (w .clock) y F′) };
+              not-far = record { le = rw eo (omega (arith, orders)) };
+              header = ap (stamp c) (H .bytes) ∙ stamp-bytes c y (L .some-bytes) ∙ sym (H .deadline);
+            }
 
-    -- Each setting reads as the router's, which is in range.
-    settings-sound : settingsSound B s ≡ true
-    unfolding settingsSound
-    settings-sound =
-        let connections = all-true (connectionSound B s) 256 (λ i l. and-both (ltb (get s (delay i)) (half c)) (leb (get s (routes i)) 31) (lt-ltb (get s (delay i)) (half c) (omega (arith, S .same (delay i) refl l, G .settings .entry i l .delay))) (le-leb (get s (routes i)) 31 (omega (arith, S .same (routes i) refl l, G .settings .entry i l .mask)))) in
-        let horizons = all-true (horizonSound B s) 5 (λ p l. lt-ltb (get s (horizon p)) (half c) (omega (arith, S .same (horizon p) refl l, G .settings .horizon p l))) in
-        let a₁ = lt-ltb (get s (latch 1)) (half c) (omega (arith, S .same (latch 1) refl (omega arith), G .settings .latch .delay)) in
-        let a₂ = le-leb (get s (latch 2)) 31 (omega (arith, S .same (latch 2) refl (omega arith), G .settings .latch .mask)) in
-        let a₃ = le-leb (get s (latch 3)) 31 (omega (arith, S .same (latch 3) refl (omega arith), G .settings .ports)) in
-        rw (connections, horizons, a₁, a₂) a₃
-
-    -- The stack is the free list, which has each empty place once.
-    stack-sound : stackSound B s ≡ true
-    unfolding stackSound
-    stack-sound =
-        let room = le-leb (get s free) 256 (rel-room B L R (G .kept)) in
-        let once : distinct (stack B s) ≡ true = ap distinct (R .stack) ∙ G .kept .once in
-        let slots = all-true (listed B s) 256 (λ i l. eq-beq (elem i (stack B s)) (eqb (get s (mask i)) 0) (ap (elem i) (R .stack) ∙ G .kept .idle i l ∙ sym (mask-held r i (w .place i) (R .place i l) (G .busy i l)))) in
-        rw (room, once) slots
-
-    -- Question 2 is passed, part by part.
+    -- Settings and stack read as the router's, which are in range, and which have each empty place once.
     pub rel-sound : sound B r ≡ true
-    unfolding sound slotsSound
-    rel-sound = rw (settings-sound, stack-sound) (all-true (slotSound B r) 256 slot-sound)
+    rel-sound = sound-iff B r .1 (record {
+      settings = record {
+        delays = λ i l. omega (arith, S .same (delay i) refl l, G .settings .entry i l .delay);
+        masks = λ i l. omega (arith, S .same (routes i) refl l, G .settings .entry i l .mask);
+        horizons = λ p l. omega (arith, S .same (horizon p) refl l, G .settings .horizon p l);
+        register-1 = omega (arith, S .same (latch 1) refl (omega arith), G .settings .latch .delay);
+        register-2 = omega (arith, S .same (latch 2) refl (omega arith), G .settings .latch .mask);
+        register-4 = omega (arith, S .same (latch 3) refl (omega arith), G .settings .ports);
+      };
+      stack = lists-sound B s (rel-room B L R (G .kept)) (ap distinct (R .stack) ∙ G .kept .once) (λ i l. ap (elem i) (R .stack) ∙ G .kept .idle i l ∙ sym (mask-held r i (w .place i) (R .place i l) (G .busy i l)));
+      stored = stored-sound;
+    })
 
     -- Question 1 is passed.
     pub rel-full : full B r ≡ true
     unfolding full
     rel-full = and-both (eqb (length s) stateLength) (eqb (length (r .memory)) 5120) (eq-eqb (length s) stateLength (S .sized)) (eq-eqb (length (r .memory)) 5120 (R .whole))
+
+    -- A slot holds a packet where its place does, so none is lost.
+    pub rel-intact : Intact B r
+    unfolding stored
+    rel-intact =
+        let same = count-same (held B s) (λ i. isHeld (w .place i)) 256 (λ i l. ap not (mask-held r i (w .place i) (R .place i l) (G .busy i l)) ∙ Bool·not-not (isHeld (w .place i))) in
+        record { full = rel-full; sound = rel-sound; slots = let n = rel-free B L R in let k = G .kept .all in omega arith }
 
     -- ---- a tick
 

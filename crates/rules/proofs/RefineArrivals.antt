@@ -5,7 +5,7 @@ use mathlib.Core.Bool.{Bool, true, false, cond, not, true≢false}
 use mathlib.Core.List.{List, [], _∷_}
 use mathlib.Core.Option.{some}
 use native.Mathlib.Omega.{arith}
-use lib.ListN.{length, length-drop}
+use lib.ListN.{length}
 use lib.Seq.{sets, length-sets}
 use lib.Dec.{eqb}
 use lib.IntN.{ℤ, pos, negℤ, _+ℤ_}
@@ -25,9 +25,9 @@ use Rattle.rules.proofs.BoardLaws.{Laws, same}
 use Rattle.rules.proofs.Booleans.{cons-first, cons-rest}
 use Rattle.rules.proofs.Integers.{diff-late}
 use Rattle.rules.proofs.WholeLaws.{fresh-held, made, Made, arrival-by, first-place, arrival-code}
-use Rattle.rules.proofs.Good.{Good, Input, after, arrivals-kept, input-then, length-packet}
+use Rattle.rules.proofs.Good.{Good, Input, after, arrivals-kept, input-then}
 use Rattle.rules.proofs.TimeLaws.{plus-cut, offset-is}
-use Rattle.rules.proofs.AreaLaws.{packet-same, packet-other, length-packed}
+use Rattle.rules.proofs.AreaLaws.{length-packet, length-payload, packet-same, packet-other, length-packed}
 use Rattle.rules.proofs.StateLaws.{Reads, none-out, reads-self, reads-put, reads-off, topFirst-same}
 use Rattle.rules.proofs.Relation.{Here, Untouched, Rel, rel-free, here-put, settled-places, kept-room}
 
@@ -118,8 +118,7 @@ module _ (B : Board) (L : Laws B) where
       bytes-same = ap₂ (λ (o d : ℕ). packed c o d (payload c k)) (R .settled .same (outgoing i) refl hi) deadline-same
 
       bytes-length : length bytes ≡ 20
-      unfolding payload
-      bytes-length = length-packed c (get s (outgoing i)) D (payload c k) (length-drop (1 + c) k ∙ ap (λ (n : ℕ). n - (1 + c)) (length-packet (call .arrivals) p (I .whole) hp)) (L .few-bytes)
+      bytes-length = length-packed c (get s (outgoing i)) D (payload c k) (length-payload c k (length-packet (call .arrivals) p (let e = I .whole in omega arith))) (L .few-bytes)
 
       abbrev new : Held
       new = fresh-held (made c w p k (call .times p))

@@ -1,26 +1,27 @@
 -- The free count and the slots that hold a packet make 256 in a sound state, and no accepted arrival makes them more. Assumes nothing.
 use Prim.Native.Nat.{ℕ, zero, suc, _+_, _-_, _<_, _≤_}
-use mathlib.Core.Path.{_≡_, refl, sym, ap, ap₂, _∙_}
-use mathlib.Core.Bool.{Bool, true, false, cond, not, _&&_, _||_, Bool·beq, true≢false}
+use mathlib.Core.Path.{_≡_, refl, sym, ap, _∙_}
+use mathlib.Core.Bool.{Bool, true, false, cond, not}
 use mathlib.Core.Logic.{_≢_}
 use mathlib.Core.List.{List, [], _∷_}
 use native.Mathlib.Decide.{ℕ-discrete}
 use native.Mathlib.Omega.{arith}
 use lib.ListN.{length}
-use lib.Dec.{leb, eqb}
+use lib.Dec.{eqb}
 use borrow.Author.Tests.{ne-eqb}
 use Rattle.rules.specs.Areas.{Store, byte, bits, stamp, elem, distinct}
 use Rattle.rules.specs.Board.{Board, free, idle, time, deadline, mask, delay, routes}
 use Rattle.rules.specs.Clock.{plus}
-use Rattle.rules.specs.Indices.{all, count, counted, topFirst}
-use Rattle.rules.specs.Questions.{stack, listed, stackSound}
+use Rattle.rules.specs.Indices.{count, counted}
+use Rattle.rules.specs.Questions.{stack, stackSound}
+use Rattle.rules.specs.SoundKept.{held, used}
 use Rattle.rules.specs.Tick.{placed}
-use Rattle.rules.proofs.Booleans.{and-left, and-right, not-false, beq-eq}
+use Rattle.rules.proofs.Booleans.{and-left, and-right, not-false}
 use Rattle.rules.proofs.BoardLaws.{Laws}
 use Rattle.rules.proofs.WholeLaws.{elem-first, elem-other}
-use Rattle.rules.proofs.Soundness.{at-elem}
+use Rattle.rules.proofs.Soundness.{at-elem, stack-lists}
 use Rattle.rules.proofs.StateLaws.{length-topFirst}
-use Rattle.rules.proofs.IndexLaws.{all-at, count-same, count-change, count-none, counted-true, counted-false}
+use Rattle.rules.proofs.IndexLaws.{count-same, count-change, count-none, counted-true, counted-false}
 
 -- ---- counts
 
@@ -71,23 +72,13 @@ count-elem (x ∷ l) d h =
 module _ (B : Board) (L : Laws B) where
   open Board B using (clockBytes as c, stateLength, get, put)
 
-  -- Slot i holds a packet.
-  abbrev pub held : List ℕ → ℕ → Bool
-  held s i = not (eqb (get s (mask i)) 0)
-
-  -- The free count and the slots that hold a packet.
-  abbrev pub used : List ℕ → ℕ
-  used s = get s free + count 256 (held s)
-
   -- In a sound state they make 256, where the stack's entries are slots.
-  pub sound-used : (s : List ℕ) → stackSound B s ≡ true → ((j : ℕ) → j < get s free → get s (idle j) < 256) → used s ≡ 256
-  unfolding stackSound stack
+  pub sound-used : (s : List ℕ) → stackSound B s ≡ true → ((j : ℕ) → j < get s free → get s (idle j) < 256) → used B s ≡ 256
+  unfolding stack
   sound-used s e small =
       let l = stack B s in
-      let a = and-right (leb (get s free) 256) (distinct l && all 256 (listed B s)) e in
-      let d = and-left (distinct l) (all 256 (listed B s)) a in
-      let m = and-right (distinct l) (all 256 (listed B s)) a in
-      let q = count-same (λ i. elem i l) (λ i. eqb (get s (mask i)) 0) 256 (λ i h. beq-eq (elem i l) (eqb (get s (mask i)) 0) (all-at (listed B s) 256 i m h)) in
+      let (d, m) = stack-lists B s e in
+      let q = count-same (λ i. elem i l) (λ i. eqb (get s (mask i)) 0) 256 m in
       let n = count-not (λ i. eqb (get s (mask i)) 0) 256 in
       let k = count-elem l d (λ x h. within x (at-elem (λ i. get s (idle i)) x (get s free) h)) in
       let z = length-topFirst (λ i. get s (idle i)) (get s free) in
@@ -97,10 +88,10 @@ module _ (B : Board) (L : Laws B) where
       within x (j, h, e) = let a = small j h in omega arith
 
   -- An accepted packet takes one from the free count, and gives one slot a packet.
-  pub placed-used : (r : Store) (k : List ℕ) → length (r .state) ≡ stateLength → 0 < get (r .state) free → get (r .state) (idle (get (r .state) free - 1)) < 256 → used (placed B r k .state) ≤ used (r .state)
+  pub placed-used : (r : Store) (k : List ℕ) → length (r .state) ≡ stateLength → 0 < get (r .state) free → get (r .state) (idle (get (r .state) free - 1)) < 256 → used B (placed B r k .state) ≤ used B (r .state)
   unfolding placed
   placed-used r k sized some hi =
-      let more = count-one-more (held s₄) (held s) i 256 (λ j l n. ap (λ (m : ℕ). not (eqb m 0)) (mask-other j l n)) in
+      let more = count-one-more (held B s₄) (held B s) i 256 (λ j l n. ap (λ (m : ℕ). not (eqb m 0)) (mask-other j l n)) in
       omega (arith, free-is)
     where
       s : List ℕ

@@ -182,14 +182,15 @@ module _ (c : ℕ) where
     withdrawn-at : (p : ℕ) (x : Packet) → List·Memᴰ x (d .report .withdrawn p) → (i : ℕ) × (i < 256) × (waiting (then 5 .place i) p ≡ some x) × (isDue (then 5 .clock) x ≡ true)
     withdrawn-at p x m = withdrawn-held (then 5 .clock) (then 5 .place) p 256 x (subst (List·Memᴰ x) (withdrawn-is p) m)
 
-    withdrawn-due : (p : ℕ) (x : Packet) → List·Memᴰ x (d .report .withdrawn p) → r .clock ≡ x .deadline
+    withdrawn-due : (p : ℕ) (x : Packet) → List·Memᴰ x (d .report .withdrawn p) → (x .arrived ≤ℤ r .clock) × (r .clock ≡ x .deadline)
     unfolding isDue
     withdrawn-due p x m =
         let (i, l, v, b) = withdrawn-at p x m in
+        let (s, a) = fit-at p 5 (omega arith) i x l v in
         let z = then 5 .clock in
         let f = and-left (leZ (x .deadline) z) (leZ z (x .deadline)) b in
         let g = and-right (leZ (x .deadline) z) (leZ z (x .deadline)) b in
-        sym (clock-at c r (d .call) 5) ∙ antisym z (x .deadline) (is-true (leZ z (x .deadline)) g) (is-true (leZ (x .deadline) z) f)
+        (record { le = s }, sym (clock-at c r (d .call) 5) ∙ antisym z (x .deadline) (is-true (leZ z (x .deadline)) g) (is-true (leZ (x .deadline) z) f))
 
     -- ---- where its packets come from
 
@@ -329,7 +330,7 @@ module _ (c : ℕ) where
       early = λ i y e s. record { lt = subst (λ (y : Packet). T (ltZ (d .met .clock) (y .time))) (is-x y s (genuine d m p hp y .early i e)) (rests t p (early (i, y)) e .2) };
       withdrawn = λ n.
           let (y, k, s) = times-some x (d .report .withdrawn p) n in
-          withdrawn-due t p y k ∙ ap (λ (y : Packet). y .deadline) (is-x y s (genuine d m p hp y .withdrawn k));
+          subst (λ (y : Packet). (y .arrived ≤ℤ d .met .clock) × (d .met .clock ≡ y .deadline)) (is-x y s (genuine d m p hp y .withdrawn k)) (withdrawn-due t p y k);
     }
       where
         t : Ticking c d

@@ -152,7 +152,7 @@ module _ (c : ℕ) where
           go : (e : Done) → List·Memᴰ e before → (n : ℕ) → times x (e .report .withdrawn p) ≡ n → n ≡ 0
           go e k zero q = refl
           go e k (suc n) q =
-              let s : e .met .clock ≡ x .deadline = lawful c R′ empty x a p hp e (Memᴰ·append-left (d ∷ []) k) .withdrawn (omega arith) in
+              let s : e .met .clock ≡ x .deadline = lawful c R′ empty x a p hp e (Memᴰ·append-left (d ∷ []) k) .withdrawn (omega arith) .1 in
               let o : T (leZ (sucℤ (x .deadline)) (d .met .clock)) = subst (λ (y : ℤ). T (leZ (sucℤ y) (d .met .clock))) s (over c S k) in
               let l = alive .le in
               absurd (omega (arith, orders, suc-nat (x .deadline)))

@@ -77,7 +77,7 @@ module _ (B : Board) where
 
 module _ (f : ℕ → ℕ) where
   -- What f gives below n is on the list: it is the new one or an older one.
-  pub elem-at : (a n k : ℕ) → k < n → f k ≡ a → elem a (topFirst f n) ≡ true
+  elem-at : (a n k : ℕ) → k < n → f k ≡ a → elem a (topFirst f n) ≡ true
   unfolding elem topFirst
   elem-at a zero k h e = absurd (omega arith)
   elem-at a (suc n) k h e = go (λ l. elem-at a n k l e) (decLt k n)
@@ -97,7 +97,7 @@ module _ (f : ℕ → ℕ) where
       go older (no q) = let (k, l, p) = older (rw (ne-eqb a (f n) q) at e) in (k, omega arith, p)
 
   -- Without repeats the values are different: one equal to an earlier would stand on the list before it.
-  pub different-at : (n : ℕ) → distinct (topFirst f n) ≡ true → (i j : ℕ) → i < j → j < n → f i ≢ f j
+  different-at : (n : ℕ) → distinct (topFirst f n) ≡ true → (i j : ℕ) → i < j → j < n → f i ≢ f j
   unfolding distinct topFirst
   different-at zero e i j l h q = absurd (omega arith)
   different-at (suc n) e i j l h q = go (λ m. different-at n (and-right (not (elem (f n) (topFirst f n))) (distinct (topFirst f n)) e) i j l m q) (decLt j n)
@@ -110,7 +110,7 @@ module _ (f : ℕ → ℕ) where
           true≢false (sym (elem-at (f n) n i (omega arith) (q ∙ ap f k)) ∙ new)
 
   -- And different values make no repeat.
-  pub at-different : (n : ℕ) → ((i j : ℕ) → i < j → j < n → f i ≢ f j) → distinct (topFirst f n) ≡ true
+  at-different : (n : ℕ) → ((i j : ℕ) → i < j → j < n → f i ≢ f j) → distinct (topFirst f n) ≡ true
   unfolding distinct topFirst
   at-different zero h = refl
   at-different (suc n) h = and-both (not (elem (f n) (topFirst f n))) (distinct (topFirst f n)) (go (elem (f n) (topFirst f n)) refl) (at-different n (λ i j l m. h i j l (omega arith)))
@@ -141,7 +141,7 @@ module _ (B : Board) where
   open Board B using (clockBytes as c, get)
 
   -- Each test of the settings is a rule.
-  pub settings-iff : (s : List ℕ) → (settingsSound B s ≡ true) ↔ SettingsSound B s
+  settings-iff : (s : List ℕ) → (settingsSound B s ≡ true) ↔ SettingsSound B s
   unfolding settingsSound
   settings-iff s =
       let parts = and-iff (all 256 (connectionSound B s)) (all 5 (horizonSound B s) && latchSound B s) in
@@ -175,22 +175,33 @@ module _ (B : Board) where
           let parts = and-iff (ltb (get s (delay i)) (half c)) (leb (get s (routes i)) 31) in
           (λ e. let (a, b) = parts .0 e in (ltb-true _ _ a, leb-true _ _ b), λ p. parts .1 (lt-ltb _ _ (p .0), le-leb _ _ (p .1)))
 
-  -- The stack is the list of its first n entries, and a slot's test compares being on it with being empty.
+  -- The stack of a sound state has no address twice, and has exactly the empty slots.
+  pub stack-lists : (s : List ℕ) → stackSound B s ≡ true → (distinct (stack B s) ≡ true) × ((i : ℕ) → i < 256 → elem i (stack B s) ≡ eqb (get s (mask i)) 0)
+  unfolding stackSound
+  stack-lists s e =
+      let (once, slots) = and-iff (distinct (stack B s)) (all 256 (listed B s)) .0 (and-right (leb (get s free) 256) (distinct (stack B s) && all 256 (listed B s)) e) in
+      (once, λ i h. beq-eq (elem i (stack B s)) (eqb (get s (mask i)) 0) (all-at (listed B s) 256 i slots h))
+
+  -- The stack is the list of its first n entries.
+  pub lists-sound : (s : List ℕ) → get s free ≤ 256 → distinct (stack B s) ≡ true → ((i : ℕ) → i < 256 → elem i (stack B s) ≡ eqb (get s (mask i)) 0) → StackSound B s
+  unfolding stack
+  lists-sound s count once same =
+      let n = get s free in
+      let entry : ℕ → ℕ = λ k. get s (idle k) in
+      record {
+        count = count;
+        different = different-at entry n once;
+        idle-empty = λ i k h l q. eqb-true _ _ (sym (same i h) ∙ elem-at entry i n k l q);
+        empty-idle = λ i h q. at-elem entry i n (same i h ∙ eq-eqb _ _ q);
+      }
+
+  -- A slot's test compares being on it with being empty.
   pub stack-iff : (s : List ℕ) → (stackSound B s ≡ true) ↔ StackSound B s
   unfolding stackSound stack
   stack-iff s =
       let parts = and-iff (leb (get s free) 256) (distinct (stack B s) && all 256 (listed B s)) in
       let others = and-iff (distinct (stack B s)) (all 256 (listed B s)) in (
-        λ e.
-            let (count, e₁) = parts .0 e in
-            let (once, e₂) = others .0 e₁ in
-            let same : (i : ℕ) → i < 256 → elem i (stack B s) ≡ eqb (get s (mask i)) 0 = λ i h. beq-eq (elem i (stack B s)) (eqb (get s (mask i)) 0) (all-at (listed B s) 256 i e₂ h) in
-            record {
-              count = leb-true _ _ count;
-              different = different-at entry n once;
-              idle-empty = λ i k h l q. eqb-true _ _ (sym (same i h) ∙ elem-at entry i n k l q);
-              empty-idle = λ i h q. at-elem entry i n (same i h ∙ eq-eqb _ _ q);
-            },
+        λ e. let (once, same) = stack-lists s e in lists-sound s (leb-true _ _ (parts .0 e .0)) once same,
         λ p. parts .1 (le-leb _ _ (p .count), others .1 (at-different entry n (p .different), all-true (listed B s) 256 (λ i h. eq-beq (elem i (stack B s)) (eqb (get s (mask i)) 0) (same p i h)))),
       )
     where
@@ -210,7 +221,7 @@ module _ (B : Board) where
           go (no q) false e = e ∙ sym (ne-eqb (get s (mask i)) 0 q)
 
   -- Each test of a slot is a rule for the packet in it.
-  pub slot-iff : (r : Store) (i : ℕ) → (slotSound B r i ≡ true) ↔ (get (r .state) (mask i) ≢ 0 → StoredSound B r i)
+  slot-iff : (r : Store) (i : ℕ) → (slotSound B r i ≡ true) ↔ (get (r .state) (mask i) ≢ 0 → StoredSound B r i)
   unfolding slotSound
   slot-iff r i =
       let s = r .state in
@@ -235,20 +246,15 @@ module _ (B : Board) where
 
   -- ---- the law
 
-  pub sound-means : (r : Store) → sound B r ≡ true → Sound B r
+  -- Question 2 is passed just where every rule holds.
+  pub sound-iff : (r : Store) → (sound B r ≡ true) ↔ Sound B r
   unfolding sound slotsSound
-  sound-means r e =
-      let (settings, e₁) = and-iff (settingsSound B (r .state)) (stackSound B (r .state) && slotsSound B r) .0 e in
-      let (stack, slots) = and-iff (stackSound B (r .state)) (slotsSound B r) .0 e₁ in
-      record { settings = settings-iff (r .state) .0 settings; stack = stack-iff (r .state) .0 stack; stored = λ i h. slot-iff r i .0 (all-at (slotSound B r) 256 i slots h) }
-
-  pub means-sound : (r : Store) → Sound B r → sound B r ≡ true
-  unfolding sound slotsSound
-  means-sound r p =
-      and-iff (settingsSound B (r .state)) (stackSound B (r .state) && slotsSound B r) .1 (
-        settings-iff (r .state) .1 (p .settings),
-        and-iff (stackSound B (r .state)) (slotsSound B r) .1 (
-          stack-iff (r .state) .1 (p .stack),
-          all-true (slotSound B r) 256 (λ i h. slot-iff r i .1 (p .stored i h)),
-        ),
+  sound-iff r =
+      let parts = and-iff (settingsSound B (r .state)) (stackSound B (r .state) && slotsSound B r) in
+      let others = and-iff (stackSound B (r .state)) (slotsSound B r) in (
+        λ e.
+            let (settings, e₁) = parts .0 e in
+            let (stack, slots) = others .0 e₁ in
+            record { settings = settings-iff (r .state) .0 settings; stack = stack-iff (r .state) .0 stack; stored = λ i h. slot-iff r i .0 (all-at (slotSound B r) 256 i slots h) },
+        λ p. parts .1 (settings-iff (r .state) .1 (p .settings), others .1 (stack-iff (r .state) .1 (p .stack), all-true (slotSound B r) 256 (λ i h. slot-iff r i .1 (p .stored i h)))),
       )

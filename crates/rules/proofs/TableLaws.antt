@@ -1,5 +1,5 @@
 -- A board given by its table is lawful where each byte has one owner: one computed test over the fields. Assumes nothing.
-use Prim.Native.Nat.{ℕ, zero, suc, _+_, _-_, _<_, _≤_}
+use Prim.Native.Nat.{ℕ, zero, suc, _+_, _-_, _^_, _<_, _≤_}
 use mathlib.Core.Path.{_≡_, refl, sym, ap, ap₂, subst, _∙_}
 use mathlib.Core.Bool.{Bool, true, false, cond, _&&_, true≢false}
 use mathlib.Core.Logic.{_≢_}
@@ -10,13 +10,13 @@ use lib.ListN.{length, take, drop, length-append}
 use lib.Seq.{length-sets, take-at, drop-append-add}
 use lib.Dec.{ltb, eqb}
 use borrow.Author.Tests.{eqb-true, ltb-true, eq-eqb, ne-eqb}
-use Rattle.rules.specs.Areas.{value, digits}
+use Rattle.rules.specs.Areas.{Bytes, value, digits}
 use Rattle.rules.specs.Board.{byTable, Field, clock, horizon, latch, free, idle, time, deadline, mask, outgoing, delay, routes, getAt, putAt}
 use Rattle.rules.specs.Indices.{all}
 use Rattle.rules.proofs.Booleans.{and-left, and-right}
-use Rattle.rules.proofs.BoardLaws.{Laws, freshField, kind, index, extent, same, Valid}
+use Rattle.rules.proofs.BoardLaws.{Laws, freshField, kind, index, extent, width, same, Valid}
 use Rattle.rules.proofs.IndexLaws.{all-at}
-use Rattle.rules.proofs.AreaLaws.{part-same, part-other, length-digits, value-digits}
+use Rattle.rules.proofs.AreaLaws.{part-same, part-other, part-lt, length-digits, value-digits}
 
 -- The field of a kind and an index.
 abbrev pub field : ℕ → ℕ → Field
@@ -128,20 +128,24 @@ drop-past a b l n e h =
     let q : n ≡ length b + k = omega arith in
     ap (λ (m : ℕ). drop m (a ++ l)) p ∙ drop-append-add a l k ∙ sym (ap (λ (m : ℕ). drop m (b ++ l)) q ∙ drop-append-add b l k)
 
--- The tests that make a table lawful: each byte has one owner, the clock stands first, and the rest is fresh.
+-- The tests that make a table lawful: each byte has one owner, the clock stands first, every field has its width, and the rest is fresh.
 pub record Tested (c size : ℕ) (table : Field → ℕ × ℕ) (rest : List ℕ) : Type 0 where
   pub some-bytes : 0 < c
   pub few-bytes : c < 20
   pub owner : ℕ → Field
   pub owners : each (owned table size owner) ≡ true
   pub first : table clock .0 ≡ 0
-  pub wide : table clock .1 ≡ c
+  pub wide : each (λ f. eqb (table f .1) (width c f)) ≡ true
   pub whole : c + length rest ≡ size
   pub blank : each (λ f. eqb (getAt table (digits c 0 ++ rest) f) (freshField 0 f)) ≡ true
 
 module _ (c size : ℕ) (table : Field → ℕ × ℕ) (rest : List ℕ) (H : Tested c size table rest) where
   abbrev state : ℕ → List ℕ
   state t = digits c t ++ rest
+
+  -- From the test.
+  wide-at : (f : Field) → Valid f → table f .1 ≡ width c f
+  wide-at f v = eqb-true (table f .1) (width c f) (each-at (λ f. eqb (table f .1) (width c f)) (H .wide) f v)
 
   -- Every other field stands after the clock: it shares no byte with it.
   after-clock : (f : Field) → Valid f → kind f ≢ 0 → c ≤ table f .0
@@ -151,14 +155,14 @@ module _ (c size : ℕ) (table : Field → ℕ × ℕ) (rest : List ℕ) (H : Te
       go (yes l) =
           let h = nonempty table size (H .owner) (H .owners) f v in
           let a = H .first in
-          let b = H .wide in
+          let b = wide-at clock (omega arith) in
           absurd (n (sym (ap kind (meet table size (H .owner) (H .owners) clock f (omega arith) v (table f .0) 0 (omega arith) h (omega arith)))))
       go (no l) = omega arith
 
   -- The clock's bytes stand first.
   get-clock : (t : ℕ) → getAt table (state t) clock ≡ t
   unfolding getAt
-  get-clock t = rw (H .wide, H .first, take-at (digits c t) rest c (length-digits c t)) (value-digits c t (H .some-bytes))
+  get-clock t = rw (wide-at clock (omega arith), H .first, take-at (digits c t) rest c (length-digits c t)) (value-digits c t (H .some-bytes))
 
   -- A later field reads as it does at the clock 0.
   get-later : (t : ℕ) (f : Field) → Valid f → kind f ≢ 0 → getAt table (state t) f ≡ freshField t f
@@ -178,6 +182,11 @@ module _ (c size : ℕ) (table : Field → ℕ × ℕ) (rest : List ℕ) (H : Te
       go (yes e) = subst (λ (f : Field). getAt table (state t) f ≡ freshField t f) (sym (ap (λ (k : ℕ). field k (index f)) e) ∙ field-of f .0) (get-clock t)
       go (no n) = get-later t f v n
 
+  -- A field stands inside the state.
+  getAt-lt : (s : List ℕ) (f : Field) → Bytes s → length s ≡ size → Valid f → getAt table s f < 256 ^ width c f
+  unfolding getAt
+  getAt-lt s f b e v = subst (λ (n : ℕ). getAt table s f < 256 ^ n) (wide-at f v) (part-lt (table f .1) (table f .0) s b (let h = fits-in table size (H .owner) (H .owners) f v in omega arith))
+
   -- All laws, from the tests.
   pub lawful-table : Laws (byTable c size table rest)
   unfolding putAt
@@ -186,6 +195,7 @@ module _ (c size : ℕ) (table : Field → ℕ × ℕ) (rest : List ℕ) (H : Te
     few-bytes = H .few-bytes;
     length-put = λ s f v. length-sets s (table f .0) (digits (table f .1) v);
     get-put = getAt-putAt table size (H .owner) (H .owners);
+    get-lt = getAt-lt;
     length-fresh = λ t. length-append (digits c t) rest ∙ ap (λ (n : ℕ). n + length rest) (length-digits c t) ∙ H .whole;
     get-fresh = get-fresh;
   }

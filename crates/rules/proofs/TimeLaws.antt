@@ -1,5 +1,5 @@
 -- A packet's times cut to clock readings, against its whole-number times. Assumes nothing.
-use Prim.Native.Nat.{ℕ, _+_, _*_, _%_, _^_, _<_}
+use Prim.Native.Nat.{ℕ, suc, _+_, _*_, _%_, _^_, _<_}
 use mathlib.Core.Path.{_≡_, refl, sym, ap, subst, _∙_}
 use mathlib.Core.Bool.{Bool, true, false, _&&_}
 use native.Mathlib.Nat.{mod-eq-of-lt, add-mul-mod-self-right}
@@ -10,9 +10,9 @@ use lib.IntN.{ℤ, pos, negℤ, sucℤ, _+ℤ_, _-ℤ_, +ℤ-one}
 use lib.Signed.{leZ, ltZ}
 use borrow.Author.Tests.{eq-eqb, ne-eqb}
 use Rattle.rules.specs.Areas.{low, bits, half}
-use Rattle.rules.specs.Clock.{cut, plus, minus, offset}
+use Rattle.rules.specs.Clock.{cut, plus, minus, signed, offset}
 use Rattle.rules.specs.Whole.{Packet, isDue}
-use Rattle.rules.proofs.ClockLaws.{turns, pow-double, cut-view, offset-true, key-true}
+use Rattle.rules.proofs.ClockLaws.{turns, pow-double, cut-view, minus-view, signed-view, offset-true, key-true}
 use Rattle.rules.proofs.Integers.{up, down, nat-eq, orders, add-nat, neg-nat, diff-nat, antisym, not-le}
 use Rattle.rules.proofs.Good.{Fit}
 
@@ -38,6 +38,24 @@ cut-suc b z = plus-cut b z 1 ∙ ap (cut b) (+ℤ-one z)
 pub cut-pos : (b t : ℕ) → t < 2 ^ b → cut b (pos t) ≡ t
 unfolding cut
 cut-pos b t l = mod-eq-of-lt l
+
+-- A difference that turned over, added back, turns over to what it was taken from.
+pub plus-minus : (b x y : ℕ) → x < 2 ^ b → y < 2 ^ b → plus b y (minus b x y) ≡ x
+unfolding plus
+plus-minus b x y hx hy =
+    let (q, e, l) = minus-view b x y hx hy in
+    let f : y + minus b x y ≡ x + q * 2 ^ b = omega arith in
+    ap (λ (n : ℕ). n % 2 ^ b) f ∙ add-mul-mod-self-right x q (2 ^ b) ∙ mod-eq-of-lt hx
+
+-- The clock and the offset of x make x again, cut.
+pub cut-back : (k : ℕ) (t : ℤ) (x : ℕ) → x < 2 ^ suc k → x ≡ cut (suc k) (t +ℤ offset (suc k) x (cut (suc k) t))
+unfolding offset
+cut-back k t x h =
+    let (i, j, f, b) = cut-view (suc k) t in
+    let l = minus (suc k) x (cut (suc k) t) in
+    let (q, g, m) = minus-view (suc k) x (cut (suc k) t) h b in
+    let (e, s, low, high) = signed-view k l m in
+    sym (cut-of (suc k) (t +ℤ signed (suc k) l) x (q + i) (j + e) (omega (arith, add-nat t (signed (suc k) l))) ∙ mod-eq-of-lt h)
 
 -- Of two numbers less than a turn apart, the later is cut as the other is only where they are equal.
 cut-same : (b : ℕ) (u v : ℤ) → T (ltZ (u -ℤ v) (pos (2 ^ b))) → T (leZ v u) → eqb (cut b u) (cut b v) ≡ (leZ u v && leZ v u)

@@ -49,17 +49,18 @@ isLeft x (some y) = same x y
 unfoldable pub leftOn : ℕ → Packet → (ℕ → Option Held) → ℕ
 leftOn p x place = count 256 (λ i. isLeft x (waiting (place i) p))
 
--- x was accepted by a tick of h, and bears its clock and port.
+-- x was accepted by a tick of h, and bears its clock and port. What ties it to what is stored and sent: x is the packet of that tick's report (`arrival`, Whole), which is the one that
+-- takes a place (`admitted`, Whole) and whose bytes go out (`Lawful.sent`); whatever is sent, withdrawn or still stored was accepted (`Genuine`, `Stored`), and no two accepted packets are the same (`unique`).
 unfoldable pub Accepted : List Done → Packet → Type 0
 Accepted h x = (d : Done) × (p : ℕ) × List·Memᴰ d h × (p < 5) × (d .report .arrival p ≡ accepted x) × (x .arrived ≡ d .met .clock) × (x .input ≡ p)
 
--- What the tick d may do with the accepted packet x on port p: send it in its window and under its header, or withdraw it in its deadline tick.
+-- What the tick d may do with the accepted packet x on port p: send it once it has arrived, in its window and under its header, or withdraw it once it has arrived, in its deadline tick.
 pub record Lawful (c : ℕ) (d : Done) (p : ℕ) (x : Packet) : Type 0 where
   pub sent : isSent x (d .report .grant p) ≡ true
       → (x .arrived ≤ℤ d .met .clock) × ((x .time -ℤ pos (d .met .horizon p)) ≤ℤ d .met .clock) × (d .met .clock ≤ℤ x .deadline) × (packet (d .outgoing) p ≡ packetBytes c x)
   pub on-time : (i : ℕ) (y : Packet) → d .report .grant p ≡ onTime (i, y) → same x y ≡ true → x .time ≤ℤ d .met .clock
   pub early : (i : ℕ) (y : Packet) → d .report .grant p ≡ early (i, y) → same x y ≡ true → d .met .clock <ℤ x .time
-  pub withdrawn : 0 < times x (d .report .withdrawn p) → d .met .clock ≡ x .deadline
+  pub withdrawn : 0 < times x (d .report .withdrawn p) → (x .arrived ≤ℤ d .met .clock) × (d .met .clock ≡ x .deadline)
 
 -- x is sent once, withdrawn once or still to be served once on each port of its mask, and never on another.
 pub record Account (c : ℕ) (h : List Done) (w : Router) (x : Packet) (p : ℕ) : Type 0 where

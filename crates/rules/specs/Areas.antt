@@ -1,5 +1,5 @@
 -- Bytes and areas (document 01, "Bytes and areas"): numbers in bytes, packets, port masks, and how outgoing and answers are laid out. Both routers share them. Assumes nothing.
-use Prim.Native.Nat.{ℕ, zero, suc, _+_, _-_, _*_, _/_, _%_, _^_}
+use Prim.Native.Nat.{ℕ, zero, suc, _+_, _-_, _*_, _/_, _%_, _^_, _<_}
 use mathlib.Core.Bool.{Bool, true, false, cond, not, _&&_, _||_}
 use mathlib.Core.List.{List, [], _∷_, _++_}
 use lib.ListN.{length, getD, take, drop, replicate}
@@ -22,6 +22,10 @@ quiet n = record { number = n; outgoing = []; answers = [] }
 
 abbrev pub byte : List ℕ → ℕ → ℕ
 byte l i = getD l i 0
+
+-- What the list holds are bytes.
+unfoldable pub Bytes : List ℕ → Type 0
+Bytes l = (i : ℕ) → i < length l → byte l i < 256
 
 -- The bits of a clock reading of c bytes, and the bound of delays and horizons: 8 and 128 for one byte.
 unfoldable pub low : ℕ → ℕ

@@ -4,17 +4,17 @@ use mathlib.Core.Path.{_≡_}
 use mathlib.Core.Bool.{true, cond, not, _&&_}
 use mathlib.Core.List.{List, [], _∷_}
 use mathlib.Core.Option.{Option, none, some}
-use lib.ListN.{length}
 use lib.Dec.{leb, eqb}
 use lib.IntN.{ℤ, pos, negℤ, _+ℤ_, _-ℤ_}
 use lib.Signed.{_≤ℤ_, _<ℤ_}
 use Rattle.rules.specs.Clock.{cut, offset}
-use Rattle.rules.specs.Areas.{Reply, quiet, areasFull, byte, bits, half, packet, stamp, has, fits}
+use Rattle.rules.specs.Areas.{Reply, quiet, areasFull, Bytes, bits, half, packet, stamp, has, fits}
 use Rattle.rules.specs.Whole.{Router, TickCall, Report, settings, ticked, outgoingBytes, answerBytes}
 
+-- A call as the firmware makes it: a control write, or a tick with the outgoing and answers areas that it is lent.
 pub data Call : Type 0 where
   control : ℕ → ℕ → Call
-  tick : TickCall → Call
+  tick : TickCall → List ℕ → List ℕ → Call
 
 -- What a call does; `report` is an accepted tick's.
 pub record Step : Type 0 where
@@ -23,22 +23,22 @@ pub record Step : Type 0 where
   pub report : Option Report
 
 module _ (c : ℕ) where
-  -- The number of a call: every question but whether the state is sound.
+  -- The number of a call: every question but whether the state is sound. Of outgoing and answers it sees the lengths.
   unfoldable pub refusal : Call → ℕ
   refusal (control register v) = cond (not (leb register 5)) 4 (cond (not (fits c register v)) 5 0)
-  refusal (tick k) =
-      cond (not (areasFull (k .arrivals) (k .outgoing) (k .answers))) 1 (cond (not (leb (k .arriving) 31 && leb (k .bestEffort) 31)) 3 0)
+  refusal (tick k out ans) =
+      cond (not (areasFull (k .arrivals) out ans)) 1 (cond (not (leb (k .arriving) 31 && leb (k .bestEffort) 31)) 3 0)
 
   unfoldable pub accept : Router → Call → Step
   accept r (control register v) = record { reply = quiet 0; router = settings register v r; report = none }
-  accept r (tick k) =
+  accept r (tick k out ans) =
       let t = ticked c r k in
       record { reply = record { number = 0; outgoing = outgoingBytes c (t .report); answers = answerBytes (t .report) }; router = t .router; report = some (t .report) }
 
-  -- A refused call changes nothing.
+  -- A refused call changes nothing, and leaves outgoing and answers as they were.
   unfoldable pub refuse : Router → Call → ℕ → Step
   refuse r (control register v) n = record { reply = quiet n; router = r; report = none }
-  refuse r (tick k) n = record { reply = record { number = n; outgoing = k .outgoing; answers = k .answers }; router = r; report = none }
+  refuse r (tick k out ans) n = record { reply = record { number = n; outgoing = out; answers = ans }; router = r; report = none }
 
   unfoldable pub wholeStep : Router → Call → Step
   wholeStep r k = let n = refusal k in cond (eqb n 0) (accept r k) (refuse r k n)
@@ -52,12 +52,9 @@ module _ (c : ℕ) where
   wholeReplies r (k ∷ ks) = let o = wholeStep r k in o .reply ∷ wholeReplies (o .router) ks
 
   -- What is asked of a call: masks, registers and what the areas hold are bytes; a value is as wide as a clock reading.
-  unfoldable pub Bytes : List ℕ → Type 0
-  Bytes l = (i : ℕ) → i < length l → byte l i < 256
-
   unfoldable pub ByteCall : Call → Type 0
   ByteCall (control register v) = (register < 256) × (v < 2 ^ bits c)
-  ByteCall (tick k) = (k .arriving < 256) × (k .bestEffort < 256) × Bytes (k .arrivals) × Bytes (k .outgoing) × Bytes (k .answers)
+  ByteCall (tick k out ans) = (k .arriving < 256) × (k .bestEffort < 256) × Bytes (k .arrivals) × Bytes out × Bytes ans
 
   -- The packet on port p has a true time from half the clock's turn before T to less than that after it (T - 128 to T + 127 at one byte), and this time cut in its header.
   pub record TrueTime (r : Router) (k : TickCall) (p : ℕ) : Type 0 where
@@ -68,7 +65,7 @@ module _ (c : ℕ) where
   -- Each packet that an accepted tick brings.
   unfoldable pub TrueTimes : Router → Call → Type 0
   TrueTimes r (control register v) = Unit {0}
-  TrueTimes r (tick k) = refusal (tick k) ≡ 0 → (p : ℕ) → p < 5 → has (k .arriving) p ≡ true → TrueTime r k p
+  TrueTimes r (tick k out ans) = refusal (tick k out ans) ≡ 0 → (p : ℕ) → p < 5 → has (k .arriving) p ≡ true → TrueTime r k p
 
   unfoldable pub Proper : Router → List Call → Type 0
   Proper r [] = Unit {0}
@@ -80,7 +77,7 @@ module _ (c : ℕ) where
 
   unfoldable pub fed : Router → Call → Call
   fed r (control register v) = control register v
-  fed r (tick k) = tick (record { arriving = k .arriving; bestEffort = k .bestEffort; arrivals = k .arrivals; outgoing = k .outgoing; answers = k .answers; times = trueTimes (r .clock) (k .arrivals) })
+  fed r (tick k out ans) = tick (record { arriving = k .arriving; bestEffort = k .bestEffort; arrivals = k .arrivals; times = trueTimes (r .clock) (k .arrivals) }) out ans
 
   unfoldable pub feed : Router → List Call → List Call
   feed r [] = []

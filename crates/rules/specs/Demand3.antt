@@ -20,16 +20,16 @@ use Rattle.rules.specs.Account.{Done, stored, Accounts}
 -- An accepted tick is noted, a refused one and a control write are not.
 unfoldable pub noted : Router → Call → List ℕ → Option Report → List Done → List Done
 noted r (control register v) out t l = l
-noted r (tick k) out none l = l
-noted r (tick k) out (some t) l = record { met = r; call = k; report = t; outgoing = out } ∷ l
+noted r (tick k o a) out none l = l
+noted r (tick k o a) out (some t) l = record { met = r; call = k; report = t; outgoing = out } ∷ l
 
 module _ (B : Board) where
   open Board B using (clockBytes as c, get)
 
-  -- The run of the router over bytes.
+  -- The run of the router over bytes: `controlWrite` and `tick` (Questions) are the very constants that the promises of the exported entries cite, and `fresh` is the store that `makeFresh` leaves.
   unfoldable pub byteStep : Store → Call → Outcome
   byteStep r (control register v) = Entry.controlWrite B r register v
-  byteStep r (tick k) = Entry.tick B r (k .arriving) (k .bestEffort) (k .arrivals) (k .outgoing) (k .answers)
+  byteStep r (tick k out ans) = Entry.tick B r (k .arriving) (k .bestEffort) (k .arrivals) out ans
 
   unfoldable pub storeAfter : Store → List Call → Store
   storeAfter r [] = r

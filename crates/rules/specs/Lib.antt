@@ -10,3 +10,4 @@ pub mod Whole
 pub mod Calls
 pub mod Account
 pub mod Demand3
+pub mod SoundKept

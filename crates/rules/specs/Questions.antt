@@ -8,7 +8,7 @@ use lib.IntN.{pos, negℤ}
 use lib.Signed.{leZ}
 use Rattle.rules.specs.Clock.{minus, offset}
 use Rattle.rules.specs.Indices.{all, topFirst}
-use Rattle.rules.specs.Areas.{Store, Reply, quiet, areasFull, bits, half, packet, stamp, fits, elem, distinct}
+use Rattle.rules.specs.Areas.{Store, quiet, areasFull, bits, half, packet, stamp, fits, elem, distinct}
 use Rattle.rules.specs.Board.{Board, clock, horizon, latch, free, idle, time, deadline, mask, delay, routes}
 use Rattle.rules.specs.Control.{written}
 use Rattle.rules.specs.Tick.{Outcome, ticked}

@@ -39,13 +39,11 @@ pub record Router : Type 0 where
   pub place : ℕ → Option Held
   pub free : List ℕ
 
--- A tick as the firmware calls it, its two masks and three areas, with the true logical arrival time of the packet arriving on each port.
+-- What a tick feeds it: the two masks, the arrivals' bytes, and the true logical arrival time of the packet arriving on each port.
 pub record TickCall : Type 0 where
   pub arriving : ℕ
   pub bestEffort : ℕ
   pub arrivals : List ℕ
-  pub outgoing : List ℕ
-  pub answers : List ℕ
   pub times : ℕ → ℤ
 
 unfoldable pub put : {A : Type 0} → (ℕ → A) → ℕ → A → ℕ → A

@@ -1,5 +1,5 @@
 -- `arrive` meets its contract. The loop's invariant: the store and the answers are those of the ports below p. The measure is the ports left. Assumes nothing.
-use Prim.Native.Nat.{_≤_, _-_, _*_}
+use Prim.Native.Nat.{_≤_, _-_}
 use mathlib.Core.Path.{_≡_, refl, _∙_}
 use native.Mathlib.Numerals.{add-one}
 use native.Mathlib.Omega.{arith}

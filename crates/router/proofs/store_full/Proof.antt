@@ -1,6 +1,5 @@
 -- `router::store_full` meets its contract: each return has the lengths tested so far (`full-is` of Laws). Assumes nothing.
-use borrow.Author.Needs.{needs}
-use mathlib.Core.Path.{refl, sym, _∙_}
+use mathlib.Core.Path.{refl, sym}
 use borrow.Author.Tests.{eq-eqb, ne-eqb}
 use Rattle.router.proofs.Laws.{full-is}
 use Rattle.router.proofs.store_full.Statement.{statement}

@@ -5,7 +5,7 @@ use Rattle.rules.specs.Areas.{Grant, grantCode}
 use Rattle.rules.specs.Tick.{grant, grantBytes}
 use Prim.Native.Nat.{ℕ}
 use Rattle.serve.specs.Sends.{sends}
-use mathlib.Core.Path.{ap, _∙_}
+use mathlib.Core.Path.{_∙_}
 use borrow.Author.Needs.{needs}
 use native.Mathlib.Omega.{arith}
 use Rattle.serve.proofs.send.serve.Statement.{statement}
