@@ -57,6 +57,14 @@ pub fn store(latch: &mut Latch, register: u8, value: u8)
     *latch = (*latch).with(register, value);
 }
 
+// The latch with a register stored through a reference to it: the form that callers without a reference use.
+fn stored_in(mut latch: Latch, register: u8, value: u8) -> Latch
+    ensures { λ r. ⌜ r ≡ stored latch register value ⌝ }
+{
+    store(&mut latch, register, value);
+    latch
+}
+
 // Keeps a register's byte of the latch in the state.
 fn keep(state: &mut [u8], latch: Latch, register: u8)
     ensures { λ _. ⌜ now (state .exit) ≡ kept (now (state .entry)) latch register ⌝ }
@@ -104,7 +112,7 @@ pub fn write_register(state: &mut [u8], register: u8, value: u8)
         5 => commit_horizon(state, value),
         _ => {
             let latch = Latch::read(state);
-            keep(state, latch.with(register, value), register)
+            keep(state, stored_in(latch, register, value), register)
         }
     }
 }

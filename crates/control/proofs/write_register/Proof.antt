@@ -15,8 +15,8 @@ commit-horizon-requires c κs = search needs
 read-requires : tie.Need-read-requires
 read-requires c κs = search needs
 
-with-requires : tie.Need-with-requires
-with-requires c κs = search needs
+stored-in-requires : tie.Need-stored-in-requires
+stored-in-requires c κs = search needs
 
 keep-requires : tie.Need-keep-requires
 keep-requires c κs = search needs
@@ -44,7 +44,7 @@ returns-3 c =
     let m = k .before .before .before .before .before in
     let a = m .before .before .args in
     k .keep .ensures
-    ∙ rw (k .before .«with» .ensures) (kept-written (a .state .now) (k .before .before .before .read .result) (a .value) (a .register) (m .before .before .pre) (m .match .rest .0 .1) (m .match .rest .1))
+    ∙ rw (k .before .stored-in .ensures) (kept-written (a .state .now) (k .before .before .before .read .result) (a .value) (a .register) (m .before .before .pre) (m .match .rest .0 .1) (m .match .rest .1))
 
 pub write-register-spec : {M : Type 1} → statement M
 write-register-spec =
@@ -53,7 +53,7 @@ write-register-spec =
     commit-entry-requires
     commit-horizon-requires
     read-requires
-    with-requires
+    stored-in-requires
     keep-requires
     same-length
     returns
