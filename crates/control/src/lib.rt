@@ -57,7 +57,7 @@ pub fn store(latch: &mut Latch, register: u8, value: u8)
     *latch = (*latch).with(register, value);
 }
 
-// The latch with a register stored through a reference to it: the form that callers without a reference use.
+// The latch with a register stored by `store`, for callers that have it by value.
 fn stored_in(mut latch: Latch, register: u8, value: u8) -> Latch
     ensures { λ r. ⌜ r ≡ stored latch register value ⌝ }
 {
