@@ -1,11 +1,11 @@
 -- A test that a list of calls is proper, so that demand 3 speaks of it. Assumes nothing.
 use Prim.Native.Nat.{ℕ, zero, suc, _^_, _<_}
-use mathlib.Core.Path.{_≡_, refl, sym, subst, _∙_}
+use mathlib.Core.Path.{_≡_, sym}
 use mathlib.Core.Bool.{Bool, true, false, not, _&&_, _||_, true≢false}
 use mathlib.Core.List.{List, [], _∷_}
 use native.Mathlib.Omega.{arith}
 use lib.ListN.{length}
-use lib.Dec.{T, ltb, eqb, ltb→lt, eqb→eq}
+use lib.Dec.{ltb, eqb, ltb→lt, eqb→eq}
 use lib.IntN.{pos, negℤ, _-ℤ_}
 use lib.Signed.{leZ, ltZ}
 use Rattle.rules.specs.Clock.{cut}

@@ -1,3 +1,4 @@
+pub mod Shorthand
 pub mod Rows
 pub mod Table
 pub mod Runs

@@ -1,195 +1,140 @@
--- A case of document 01 ("Cases") as a row with what it has to meet, and what a row meets at either router. Assumes nothing.
-use Prim.Native.Nat.{ℕ, _*_}
-use mathlib.Core.Path.{_≡_}
-use mathlib.Core.Bool.{Bool, true, cond, _&&_}
-use mathlib.Core.List.{List, [], _∷_, _++_, map}
+-- A case of document 01 ("Cases") as a row: calls up to a tick at t = 240, and what has to be seen of that tick; and what is seen of it at either router. Assumes nothing.
+use Prim.Native.Nat.{ℕ, zero, suc}
+use mathlib.Core.Bool.{Bool, true, false, cond, _&&_}
+use mathlib.Core.List.{List, [], _∷_, _++_}
 use mathlib.Core.Option.{Option, none, some}
-use lib.ListN.{length, replicate}
-use lib.Seq.{sets}
-use lib.Dec.{eqb}
-use lib.IntN.{ℤ, pos, negℤ, _+ℤ_, _-ℤ_}
+use lib.Dec.{ltb, eqb}
+use lib.IntN.{ℤ, pos, _-ℤ_}
 use lib.Signed.{leZ, ltZ}
-use Rattle.rules.specs.Clock.{cut}
-use Rattle.rules.specs.Indices.{topFirst}
-use Rattle.rules.specs.Areas.{Store, byte, packet, packed, noPacket, elem, Grant, nobody, bestEffort, onTime, early}
-use Rattle.rules.specs.Board.{free, time, deadline, mask}
+use Rattle.rules.specs.Areas.{Store, Reply, packet, has}
+use Rattle.rules.specs.Board.{clock, mask}
 use Rattle.rules.specs.Board8.{board8}
-use Rattle.rules.specs.Control.{written}
 use Rattle.rules.specs.Tick as Bytes
+use Rattle.rules.specs.Tick.{Outcome}
+use Rattle.rules.specs.Questions as Entry
 use Rattle.rules.specs.Questions.{fresh}
 use Rattle.rules.specs.Whole as Whole
-use Rattle.rules.specs.Whole.{Router, Held, Packet, TickCall, withPlaces, rising, settings, start, waiting, meets, arrivalCode, outgoingBytes}
+use Rattle.rules.specs.Whole.{Router, Packet, TickCall, Report, start, waiting, packetBytes}
+use Rattle.rules.specs.Calls.{Call, routerAfter, wholeStep}
+use Rattle.rules.specs.Account.{isSent, times}
+use Rattle.rules.specs.Demand3.{storeAfter}
+use Rattle.cases.specs.Shorthand.{nines, lent}
 
 -- ---- rows
 
--- A packet for port 0 that a slot holds before the tick: its logical arrival time u, and its d.
-pub record Stored : Type 0 where
-  pub slot : ℕ
-  pub u : ℤ
-  pub d : ℕ
+-- What a tick does with a packet on port 0.
+pub data Fate : Type 0 where
+  sent : Fate
+  withdrawn : Fate
+  left : Fate
 
--- What the arrival of a case meets.
-pub record Met : Type 0 where
-  -- 1 stored, else the number of its refusal.
-  pub answer : ℕ
-  -- Of a stored one the deadline, cut to a byte, and the key, on time or early.
-  pub deadline : Option ℕ
+-- A packet that waits for port 0 once the arrivals are stored: its slot, the bytes that it goes out with (its deadline is the second), its key, on time or early, and its fate in this tick.
+pub record Waiting : Type 0 where
+  pub slot : ℕ
+  pub bytes : List ℕ
   pub onTimeKey : Option ℤ
   pub earlyKey : Option ℤ
+  pub fate : Fate
 
--- What port 0 then does: the slot that it sends, the bytes that go out, how many packets it has withdrawn.
-pub record Port : Type 0 where
-  pub grant : Grant ℕ
-  pub outgoing : List ℕ
-  pub withdrawn : ℕ
+-- What is seen of a tick: the clock that it meets, its reply in full, and every packet that waits for port 0, by slot.
+pub record Seen : Type 0 where
+  pub clock : ℤ
+  pub reply : Reply
+  pub waiting : List Waiting
 
--- A tick at t = 240, no best-effort waiting. A packet arrives for port 0, whose horizon is given, on a connection of delay d; u is its true time and `time` the byte in its header.
--- Slot `next` is the first to be taken. The last two are what the case has to meet; `port` is none where the case is silent on it.
+-- A router fresh at the clock reading `from`, the calls up to t = 240, the tick, and what has to be seen of it.
 pub record Row : Type 0 where
-  pub d : ℕ
-  pub horizon : ℕ
-  pub time : ℕ
-  pub u : ℤ
-  pub stored : List Stored
-  pub next : ℕ
-  pub met : Met
-  pub port : Option Port
+  pub from : ℕ
+  pub earlier : List Call
+  pub tick : TickCall
+  pub reply : Reply
+  pub waiting : List Waiting
 
--- The data of each packet.
-unfoldable pub sample : List ℕ
-sample = rising 1 18
+unfoldable pub expected : Row → Seen
+expected r = record { clock = pos 240; reply = r .reply; waiting = r .waiting }
 
--- The arrivals area: a packet of connection 5 on port 0.
-unfoldable pub arrivals : ℕ → List ℕ
-arrivals v = packed 1 5 v sample ++ replicate 80 0
-
--- Connection 5 goes out as 33, and what is stored before as 34, each with its deadline.
-unfoldable pub arrivedAs : ℕ → List ℕ
-arrivedAs D = packed 1 33 D sample
-
-unfoldable pub storedAs : ℕ → List ℕ
-storedAs D = packed 1 34 D sample
-
--- The addresses that aren't taken.
-unfoldable pub others : List ℕ → List ℕ → List ℕ
-others taken [] = []
-others taken (i ∷ is) = let l = others taken is in cond (elem i taken) l (i ∷ l)
-
--- The idle stack, its top last, and the free list, its first place first.
-unfoldable pub idleStack : Row → List ℕ
-idleStack r = others (r .next ∷ map (λ x. x .slot) (r .stored)) (rising 0 256) ++ (r .next ∷ [])
-
-unfoldable pub freeList : Row → List ℕ
-freeList r = let l = idleStack r in topFirst (byte l) (length l)
-
--- u is from T - 128 to T + 127, and its byte stands in the header.
-unfoldable pub isTrue : Row → Bool
-isTrue r = eqb (cut 8 (r .u)) (r .time) && leZ (negℤ (pos 128)) (r .u -ℤ pos 240) && leZ (r .u -ℤ pos 240) (pos 127)
+-- What f gives for the slots below n, in order.
+unfoldable pub listed : (ℕ → Option Waiting) → ℕ → List Waiting
+listed f zero = []
+listed f (suc n) = listed f n ++ go (f n)
+  where
+    go : Option Waiting → List Waiting
+    go none = []
+    go (some x) = x ∷ []
 
 -- ---- a row at the router over bytes
 
--- Control writes open connection 5, with mask 1, and set the horizons.
-unfoldable pub opened : ℕ → ℕ → List ℕ → List ℕ
-opened d h s = written board8 5 h (written board8 4 31 (written board8 3 5 (written board8 2 1 (written board8 1 d (written board8 0 33 s)))))
-
--- Slots and memory with the stored packets.
-unfoldable pub filled : List Stored → Store → Store
-filled [] r = r
-filled (x ∷ xs) r =
-    let r′ = filled xs r in
-    let D = cut 8 (x .u +ℤ pos (x .d)) in
-    record {
-      state = board8 .put (board8 .put (board8 .put (r′ .state) (time (x .slot)) (cut 8 (x .u))) (deadline (x .slot)) D) (mask (x .slot)) 1;
-      memory = sets (r′ .memory) (20 * x .slot) (storedAs D);
-    }
-
--- The state with the idle stack l.
-unfoldable pub stacked : List ℕ → List ℕ → List ℕ
-stacked l s = board8 .put (sets s 12 l) free (length l)
-
--- State and memory that the tick meets. Whether they are sound (question 2) is not asked here.
+-- State and memory that the tick meets.
 unfoldable pub before : Row → Store
-before r =
-    let b = filled (r .stored) (fresh board8 240) in
-    record { state = stacked (idleStack r) (opened (r .d) (r .horizon) (b .state)); memory = b .memory }
+before r = storeAfter board8 (fresh board8 (r .from)) (r .earlier)
+
+-- The entry, with all its questions.
+unfoldable pub outcome : Row → Outcome
+outcome r = let k = r .tick in Entry.tick board8 (before r) (k .arriving) (k .bestEffort) (k .arrivals) (nines 100) (nines 20)
+
+-- After step 1, where the keys are taken.
+unfoldable pub arrived : Row → Store
+arrived r = let k = r .tick in Bytes.arrived board8 5 (k .arriving) (k .arrivals) (before r)
 
 -- A key as a whole number.
 unfoldable pub whole : Option ℕ → Option ℤ
 whole none = none
 whole (some k) = some (pos k)
 
--- After step 1.
-unfoldable pub arrived : Row → Store
-arrived r = Bytes.arrived board8 5 1 (arrivals (r .time)) (before r)
+unfoldable pub sameBytes : List ℕ → List ℕ → Bool
+sameBytes [] [] = true
+sameBytes [] (y ∷ ys) = false
+sameBytes (x ∷ xs) [] = false
+sameBytes (x ∷ xs) (y ∷ ys) = eqb x y && sameBytes xs ys
 
-unfoldable pub onBytes : Row → Met
-onBytes r =
-    let a = Bytes.arrival board8 (before r .state) 1 0 (packet (arrivals (r .time)) 0) in
-    let s = arrived r .state in
-    record {
-      answer = a;
-      deadline = cond (eqb a 1) (some (board8 .get s (deadline (r .next)))) none;
-      onTimeKey = whole (Bytes.onTimeKey board8 s 0 (r .next));
-      earlyKey = whole (Bytes.earlyKey board8 s 0 (r .next));
-    }
+-- A packet is left if its slot still has port 0 after the tick; else it went out on port 0, or was withdrawn.
+unfoldable pub fateOf : Bool → Bool → Fate
+fateOf stays goesOut = cond stays left (cond goesOut sent withdrawn)
 
--- The other ports have nothing to send, so that port 0 alone is served before its withdrawals are counted.
-unfoldable pub portOnBytes : Row → Port
-portOnBytes r =
+unfoldable pub waitingOnBytes : Row → ℕ → Option Waiting
+waitingOnBytes r i =
     let s = arrived r .state in
-    let g = Bytes.grant board8 s 0 0 in
-    record {
-      grant = g;
-      outgoing = packet (Bytes.ticked board8 (before r) 1 0 (arrivals (r .time)) .reply .outgoing) 0;
-      withdrawn = Bytes.withdrawals board8 (Bytes.sent board8 0 g s) 0;
-    }
+    let k = packet (arrived r .memory) i in
+    let o = outcome r in
+    cond (has (board8 .get s (mask i)) 0)
+    (some (record {
+      slot = i;
+      bytes = k;
+      onTimeKey = whole (Bytes.onTimeKey board8 s 0 i);
+      earlyKey = whole (Bytes.earlyKey board8 s 0 i);
+      fate = fateOf (has (board8 .get (o .store .state) (mask i)) 0) (sameBytes k (packet (o .reply .outgoing) 0));
+    })) none
+
+unfoldable pub onBytes : Row → Seen
+onBytes r = record { clock = pos (board8 .get (before r .state) clock); reply = outcome r .reply; waiting = listed (waitingOnBytes r) 256 }
 
 -- ---- a row at the router that never turns over
 
--- The same control writes, places and free list.
-unfoldable pub openedWhole : ℕ → ℕ → Router → Router
-openedWhole d h r = settings 5 h (settings 4 31 (settings 3 5 (settings 2 1 (settings 1 d (settings 0 33 r)))))
-
-unfoldable pub filledWhole : List Stored → (ℕ → Option Held) → ℕ → Option Held
-filledWhole [] f = f
-filledWhole (x ∷ xs) f =
-    let k : Packet = record { arrived = pos 239; input = 0; time = x .u; deadline = x .u +ℤ pos (x .d); identifier = 34; payload = sample; mask = 1 } in
-    Whole.put (filledWhole xs f) (x .slot) (some (record { packet = k; left = 1 }))
-
 unfoldable pub beforeWhole : Row → Router
-beforeWhole r = let w = openedWhole (r .d) (r .horizon) (start 240) in withPlaces w (filledWhole (r .stored) (w .place)) (freeList r)
+beforeWhole r = routerAfter 1 (start (r .from)) (r .earlier)
 
-unfoldable pub byteDeadline : Option Packet → Option ℕ
-byteDeadline none = none
-byteDeadline (some x) = some (cut 8 (x .deadline))
+unfoldable pub arrivedWhole : Row → Router
+arrivedWhole r = Whole.arrivals 1 5 (r .tick) (beforeWhole r)
 
--- Its key, k, if the test holds of it.
-unfoldable pub keyIf : (Packet → Bool) → (Packet → ℤ) → Option Packet → Option ℤ
-keyIf test k none = none
-keyIf test k (some x) = cond (test x) (some (k x)) none
+-- By what the tick reports.
+unfoldable pub reported : Report → Packet → Fate
+reported o x = cond (isSent x (o .grant 0)) sent (cond (ltb 0 (times x (o .withdrawn 0))) withdrawn left)
 
-unfoldable pub slotOf : Grant (ℕ × Packet) → Grant ℕ
-slotOf nobody = nobody
-slotOf bestEffort = bestEffort
-slotOf (onTime (i, x)) = onTime i
-slotOf (early (i, x)) = early i
+unfoldable pub waitingOnWhole : Row → ℕ → Option Waiting
+waitingOnWhole r i = go (waiting (arrivedWhole r .place i) 0)
+  where
+    T : ℤ
+    T = beforeWhole r .clock
 
-abbrev pub call : Row → TickCall
-call r = record { arriving = 1; bestEffort = 0; arrivals = arrivals (r .time); times = λ p. r .u }
+    go : Option Packet → Option Waiting
+    go none = none
+    go (some x) = some (record {
+      slot = i;
+      bytes = packetBytes 1 x;
+      onTimeKey = cond (leZ (x .time) T) (some (x .deadline -ℤ T)) none;
+      earlyKey = cond (ltZ T (x .time)) (some (x .time -ℤ T)) none;
+      fate = reported (Whole.ticked 1 (beforeWhole r) (r .tick) .report) x;
+    })
 
-unfoldable pub onWhole : Row → Met
-onWhole r =
-    let w = Whole.arrivals 1 5 (call r) (beforeWhole r) in
-    let T = w .clock in
-    let x = waiting (w .place (r .next)) 0 in
-    record {
-      answer = arrivalCode (meets 1 (call r) (beforeWhole r) 0);
-      deadline = byteDeadline x;
-      onTimeKey = keyIf (λ x. leZ (x .time) T) (λ x. x .deadline -ℤ T) x;
-      earlyKey = keyIf (λ x. ltZ T (x .time)) (λ x. x .time -ℤ T) x;
-    }
-
-unfoldable pub portOnWhole : Row → Port
-portOnWhole r =
-    let o = Whole.ticked 1 (beforeWhole r) (call r) .report in
-    record { grant = slotOf (o .grant 0); outgoing = packet (outgoingBytes 1 o) 0; withdrawn = length (o .withdrawn 0) }
+unfoldable pub onWhole : Row → Seen
+onWhole r = record { clock = beforeWhole r .clock; reply = wholeStep 1 (beforeWhole r) (lent (r .tick)) .reply; waiting = listed (waitingOnWhole r) 256 }

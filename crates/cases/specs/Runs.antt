@@ -1,50 +1,24 @@
 -- Two runs from a fresh router, with the replies to their calls in full: one across a turn of the clock, one with true times below zero. Assumes nothing.
 use Prim.Native.Nat.{ℕ}
 use mathlib.Core.Path.{_≡_}
-use mathlib.Core.List.{List, [], _∷_, _++_}
-use lib.ListN.{replicate, getD}
-use lib.IntN.{ℤ, pos, negsuc}
-use Rattle.rules.specs.Areas.{Reply, quiet, packed, noPacket}
+use mathlib.Core.List.{List, [], _∷_}
+use lib.ListN.{replicate}
+use lib.IntN.{pos, negsuc}
+use Rattle.rules.specs.Areas.{Reply, quiet, noPacket}
 use Rattle.rules.specs.Board.{free}
 use Rattle.rules.specs.Board8.{board8}
 use Rattle.rules.specs.Questions.{fresh}
-use Rattle.rules.specs.Whole.{rising, start}
-use Rattle.rules.specs.Calls.{Call, control, tick, wholeReplies}
+use Rattle.rules.specs.Whole.{start}
+use Rattle.rules.specs.Calls.{Call, control, wholeReplies}
 use Rattle.rules.specs.Demand3.{storeAfter, byteReplies}
+use Rattle.cases.specs.Shorthand.{connect, packetWith, five, nines, ticking, lent, ticked, empty}
 
--- ---- calls and replies
-
--- Connection i gets its outgoing identifier, d and mask.
-abbrev pub connect : ℕ → ℕ → ℕ → ℕ → List Call → List Call
-connect i o d m ks = control 0 o ∷ control 1 d ∷ control 2 m ∷ control 3 i ∷ ks
-
--- A packet with identifier i, the byte v for its time, and data k, k + 1, ..
-abbrev pub packetWith : ℕ → ℕ → ℕ → List ℕ
-packetWith k i v = packed 1 i v (rising k 18)
-
--- What five ports have, one after the other.
-abbrev pub five : List ℕ → List ℕ → List ℕ → List ℕ → List ℕ → List ℕ
-five a b c d e = a ++ b ++ c ++ d ++ e
-
--- A tick with its masks, arrivals and their true times. Outgoing and answers are lent full of nines.
-abbrev pub nines : ℕ → List ℕ
-nines n = replicate n 9
-
-abbrev pub ticking : ℕ → ℕ → List ℕ → List ℤ → Call
-ticking arriving waiting area u = tick (record { arriving = arriving; bestEffort = waiting; arrivals = area; times = λ p. getD u p (pos 0) }) (nines 100) (nines 20)
-
--- Replies to four control writes, to an accepted tick and to a refused one.
+-- Replies to four control writes, and to a tick refused.
 abbrev pub connected : List Reply → List Reply
 connected rs = quiet 0 ∷ quiet 0 ∷ quiet 0 ∷ quiet 0 ∷ rs
 
-abbrev pub ticked : List ℕ → List ℕ → Reply
-ticked out ans = record { number = 0; outgoing = out; answers = ans }
-
 abbrev pub turnedAway : ℕ → Reply
 turnedAway n = record { number = n; outgoing = nines 100; answers = nines 20 }
-
-abbrev pub empty : List ℕ
-empty = replicate 100 0
 
 -- ---- across a turn of the clock, from 254
 
@@ -56,16 +30,16 @@ turning =
     -- No such register, and a d that doesn't fit.
     ∷ control 6 0 ∷ control 1 128
     -- T = 254: a packet of time 256 comes for ports 1 and 3, one of time 354 for port 4; those on ports 2 and 4 meet 6 and 7. Best-effort waits on ports 2 and 3.
-    ∷ ticking 29 12 (five (packetWith 1 5 0) noPacket (packetWith 2 9 254) (packetWith 3 7 98) (packetWith 4 6 252)) (pos 256 ∷ pos 0 ∷ pos 254 ∷ pos 354 ∷ pos 252 ∷ [])
+    ∷ lent (ticking 29 12 (five (packetWith 1 5 0) noPacket (packetWith 2 9 254) (packetWith 3 7 98) (packetWith 4 6 252)) (pos 256 ∷ pos 0 ∷ pos 254 ∷ pos 354 ∷ pos 252 ∷ []))
     -- A mask above 31, and an area too short.
-    ∷ ticking 0 32 empty []
-    ∷ ticking 0 0 (replicate 99 0) []
+    ∷ lent (ticking 0 32 empty [])
+    ∷ lent (ticking 0 0 (replicate 99 0) [])
     -- T = 255: best-effort waits on port 1.
-    ∷ ticking 0 2 empty []
+    ∷ lent (ticking 0 2 empty [])
     -- T = 256: two packets of time 255 come for port 1, and best-effort waits there.
-    ∷ ticking 18 2 (five noPacket (packetWith 5 6 255) noPacket noPacket (packetWith 6 6 255)) (pos 0 ∷ pos 255 ∷ pos 0 ∷ pos 0 ∷ pos 255 ∷ [])
+    ∷ lent (ticking 18 2 (five noPacket (packetWith 5 6 255) noPacket noPacket (packetWith 6 6 255)) (pos 0 ∷ pos 255 ∷ pos 0 ∷ pos 0 ∷ pos 255 ∷ []))
     -- T = 257.
-    ∷ ticking 0 0 empty []
+    ∷ lent (ticking 0 0 empty [])
     ∷ [])))
 
 unfoldable pub turningReplies : List Reply
@@ -92,7 +66,7 @@ unfoldable pub belowZero : List Call
 belowZero =
     connect 5 33 6 1 (connect 6 34 127 4
     -- T = 2: packets of the times -3, -125 and -126.
-    (ticking 7 0 (five (packetWith 1 5 253) (packetWith 2 6 131) (packetWith 3 6 130) noPacket noPacket) (negsuc 2 ∷ negsuc 124 ∷ negsuc 125 ∷ [])
+    (lent (ticking 7 0 (five (packetWith 1 5 253) (packetWith 2 6 131) (packetWith 3 6 130) noPacket noPacket) (negsuc 2 ∷ negsuc 124 ∷ negsuc 125 ∷ []))
     ∷ []))
 
 unfoldable pub belowZeroReplies : List Reply

@@ -1,90 +1,181 @@
 -- The cases marked P of document 01 ("Cases") in one table, and the claim about them. Assumes nothing.
-use Prim.Native.Nat.{ℕ}
+use Prim.Native.Nat.{ℕ, _+_, _<_}
 use mathlib.Core.Path.{_≡_}
 use mathlib.Core.Bool.{true}
-use mathlib.Core.List.{List, [], _∷_}
-use mathlib.Core.Option.{Option, none, some}
-use lib.IntN.{pos}
-use Rattle.rules.specs.Areas.{noPacket, Grant, nobody, onTime, early}
-use Rattle.cases.specs.Rows.{Met, Port, Row, Stored, arrivedAs, storedAs, isTrue, onBytes, portOnBytes, onWhole, portOnWhole}
+use mathlib.Core.List.{List, [], _∷_, _++_, List·Memᴰ}
+use mathlib.Core.Option.{none, some}
+use lib.ListN.{replicate}
+use lib.IntN.{ℤ, pos}
+use Rattle.rules.specs.Indices.{counted}
+use Rattle.rules.specs.Areas.{Reply, noPacket, packet, has}
+use Rattle.rules.specs.Board8.{board8}
+use Rattle.rules.specs.Questions.{fresh}
+use Rattle.rules.specs.Whole.{Packet, start, packetBytes}
+use Rattle.rules.specs.Calls.{Call, control, Proper}
+use Rattle.rules.specs.Account.{Done, Accepted, isSent, times}
+use Rattle.rules.specs.Demand3.{history}
+use Rattle.cases.specs.Shorthand.{connect, packetWith, five, ticking, lent, ticked}
+use Rattle.cases.specs.Rows.{Fate, sent, withdrawn, left, Waiting, Row, expected, onBytes, onWhole}
 
-abbrev pub refused : ℕ → Met
-refused q = record { answer = q; deadline = none; onTimeKey = none; earlyKey = none }
+-- ---- what is seen
 
--- Accepted, with its key and its deadline.
-abbrev pub isOnTime : ℕ → ℕ → Met
-isOnTime key D = record { answer = 1; deadline = some D; onTimeKey = some (pos key); earlyKey = none }
+-- The reply: port 0 has a code and sends the bytes k, the arrivals meet `met`, and n packets are withdrawn on port 0. The other ports are idle.
+abbrev pub says : ℕ → List ℕ → List ℕ → ℕ → Reply
+says code k met n = ticked (k ++ replicate 80 0) (code ∷ replicate 4 0 ++ met ++ (0 ∷ n ∷ replicate 8 0))
 
-abbrev pub isEarly : ℕ → ℕ → Met
-isEarly key D = record { answer = 1; deadline = some D; onTimeKey = none; earlyKey = some (pos key) }
+abbrev pub idle : List ℕ → Reply
+idle met = says 0 noPacket met 0
 
--- What port 0 has and sends, nothing withdrawn.
-abbrev pub shows : Grant ℕ → List ℕ → Option Port
-shows g out = some (record { grant = g; outgoing = out; withdrawn = 0 })
+abbrev pub sendsOnTime : List ℕ → List ℕ → Reply
+sendsOnTime k met = says 1 k met 0
+
+abbrev pub sendsEarly : List ℕ → List ℕ → Reply
+sendsEarly k met = says 3 k met 0
+
+-- What the arrivals meet: one alone, on port 0, is stored or refused by its number.
+abbrev pub stored : List ℕ
+stored = 1 ∷ replicate 4 0
+
+abbrev pub refused : ℕ → List ℕ
+refused q = q ∷ replicate 4 0
+
+-- The packet k in a slot, its key, and its fate.
+abbrev pub isOnTime : ℕ → List ℕ → ℕ → Fate → Waiting
+isOnTime i k key f = record { slot = i; bytes = k; onTimeKey = some (pos key); earlyKey = none; fate = f }
+
+abbrev pub isEarly : ℕ → List ℕ → ℕ → Fate → Waiting
+isEarly i k key f = record { slot = i; bytes = k; onTimeKey = none; earlyKey = some (pos key); fate = f }
+
+-- ---- one packet
+
+-- Connection 5 has the delay d and goes out as 33 on port 0, whose horizon is h.
+abbrev pub opened : ℕ → ℕ → List Call
+opened d h = connect 5 33 d 1 (control 4 1 ∷ control 5 h ∷ [])
+
+-- The packet as it goes out, under its deadline D.
+abbrev pub as33 : ℕ → List ℕ
+as33 D = packetWith 1 33 D
+
+-- A packet of connection 5, whose true time is u and `time` the byte in its header, arrives on port 0 of a router fresh at t = 240.
+pub record Arriving : Type 0 where
+  pub d : ℕ
+  pub horizon : ℕ
+  pub time : ℕ
+  pub u : ℤ
+
+abbrev pub case : Arriving → Reply → List Waiting → Row
+case a reply waiting = record { from = 240; earlier = opened (a .d) (a .horizon); tick = ticking 1 0 (packetWith 1 5 (a .time) ++ replicate 80 0) (a .u ∷ []); reply = reply; waiting = waiting }
 
 -- "time 80: early, key 96. Sent at horizon 96, not at 95."
 unfoldable pub horizon96 : Row
-horizon96 = record { d = 40; horizon = 96; time = 80; u = pos 336; stored = []; next = 0; met = isEarly 96 120; port = shows (early 0) (arrivedAs 120) }
+horizon96 = case (record { d = 40; horizon = 96; time = 80; u = pos 336 }) (sendsEarly (as33 120) stored) (isEarly 0 (as33 120) 96 sent ∷ [])
 
 unfoldable pub horizon95 : Row
-horizon95 = record { d = 40; horizon = 95; time = 80; u = pos 336; stored = []; next = 0; met = isEarly 96 120; port = shows nobody noPacket }
+horizon95 = case (record { d = 40; horizon = 95; time = 80; u = pos 336 }) (idle stored) (isEarly 0 (as33 120) 96 left ∷ [])
 
 -- "time 210: on time, deadline 250, key 10."
 unfoldable pub time210 : Row
-time210 = record { d = 40; horizon = 0; time = 210; u = pos 210; stored = []; next = 0; met = isOnTime 10 250; port = shows (onTime 0) (arrivedAs 250) }
+time210 = case (record { d = 40; horizon = 0; time = 210; u = pos 210 }) (sendsOnTime (as33 250) stored) (isOnTime 0 (as33 250) 10 sent ∷ [])
 
 -- "time 200: accepted, key 0. time 199: 7."
 unfoldable pub time200 : Row
-time200 = record { d = 40; horizon = 0; time = 200; u = pos 200; stored = []; next = 0; met = isOnTime 0 240; port = none }
+time200 = case (record { d = 40; horizon = 0; time = 200; u = pos 200 }) (sendsOnTime (as33 240) stored) (isOnTime 0 (as33 240) 0 sent ∷ [])
 
 unfoldable pub time199 : Row
-time199 = record { d = 40; horizon = 0; time = 199; u = pos 199; stored = []; next = 0; met = refused 7; port = none }
+time199 = case (record { d = 40; horizon = 0; time = 199; u = pos 199 }) (idle (refused 7)) []
 
 -- "time 111: early, key 127. time 112: 7, also at d = 127. time 113, d = 127: accepted, key 0."
 unfoldable pub time111 : Row
-time111 = record { d = 40; horizon = 0; time = 111; u = pos 367; stored = []; next = 0; met = isEarly 127 151; port = none }
+time111 = case (record { d = 40; horizon = 0; time = 111; u = pos 367 }) (idle stored) (isEarly 0 (as33 151) 127 left ∷ [])
 
 unfoldable pub time112 : Row
-time112 = record { d = 40; horizon = 0; time = 112; u = pos 112; stored = []; next = 0; met = refused 7; port = none }
+time112 = case (record { d = 40; horizon = 0; time = 112; u = pos 112 }) (idle (refused 7)) []
 
 unfoldable pub time112-d127 : Row
-time112-d127 = record { d = 127; horizon = 0; time = 112; u = pos 112; stored = []; next = 0; met = refused 7; port = none }
+time112-d127 = case (record { d = 127; horizon = 0; time = 112; u = pos 112 }) (idle (refused 7)) []
 
 unfoldable pub time113-d127 : Row
-time113-d127 = record { d = 127; horizon = 0; time = 113; u = pos 113; stored = []; next = 0; met = isOnTime 0 240; port = none }
+time113-d127 = case (record { d = 127; horizon = 0; time = 113; u = pos 113 }) (sendsOnTime (as33 240) stored) (isOnTime 0 (as33 240) 0 sent ∷ [])
 
--- "time 240, d = 0: sent in this tick or withdrawn in it": withdrawn where a lower slot has the key 0 too.
-unfoldable pub sent : Row
-sent = record { d = 0; horizon = 0; time = 240; u = pos 240; stored = []; next = 0; met = isOnTime 0 240; port = shows (onTime 0) (arrivedAs 240) }
+-- "time 240, d = 0: sent in this tick or withdrawn in it": sent.
+unfoldable pub time240-sent : Row
+time240-sent = case (record { d = 0; horizon = 0; time = 240; u = pos 240 }) (sendsOnTime (as33 240) stored) (isOnTime 0 (as33 240) 0 sent ∷ [])
 
-unfoldable pub withdrawn : Row
-withdrawn = record { d = 0; horizon = 0; time = 240; u = pos 240; stored = record { slot = 0; u = pos 230; d = 10 } ∷ []; next = 1; met = isOnTime 0 240; port = some (record { grant = onTime 0; outgoing = storedAs 240; withdrawn = 1 }) }
+-- ---- two packets for port 0
 
--- "equal keys in slots 9 and 2: slot 2": on time with the arrival in slot 9, early with it in slot 2.
+-- Another packet of connection 5, with other data.
+abbrev pub other33 : ℕ → List ℕ
+other33 D = packetWith 101 33 D
+
+-- And withdrawn: two such packets arrive, on ports 0 and 1; slot 0's is sent, and slot 1's withdrawn.
+unfoldable pub time240-withdrawn : Row
+time240-withdrawn = record {
+  from = 240;
+  earlier = opened 0 0;
+  tick = ticking 3 0 (packetWith 1 5 240 ++ packetWith 101 5 240 ++ replicate 60 0) (pos 240 ∷ pos 240 ∷ []);
+  reply = says 1 (as33 240) (1 ∷ 1 ∷ replicate 3 0) 1;
+  waiting = isOnTime 0 (as33 240) 0 sent ∷ isOnTime 1 (other33 240) 0 withdrawn ∷ [];
+}
+
+-- Ten packets arrive, at t = 239 for slots 0 to 4 and at t = 240 for slots 5 to 9. Those of slots 2 and 9 are for port 0, of connections 7 (d = 10, goes out as 35) and 5 (d = 40);
+-- the others are of connection 6, early and for port 1, whose horizon is 0.
+pub record Tied : Type 0 where
+  pub horizon : ℕ
+  pub time2 : ℕ
+  pub u2 : ℤ
+  pub time9 : ℕ
+  pub u9 : ℤ
+
+abbrev pub tie : Tied → Reply → List Waiting → Row
+tie a reply waiting =
+    let k = packetWith 1 6 250 in
+    let v = pos 250 in
+    record {
+      from = 239;
+      earlier = connect 6 34 40 2 (connect 7 35 10 1 (opened 40 (a .horizon))) ++ (lent (ticking 31 0 (five k k (packetWith 1 7 (a .time2)) k k) (v ∷ v ∷ a .u2 ∷ v ∷ v ∷ [])) ∷ []);
+      tick = ticking 31 0 (five k k k k (packetWith 101 5 (a .time9))) (v ∷ v ∷ v ∷ v ∷ a .u9 ∷ []);
+      reply = reply;
+      waiting = waiting;
+    }
+
+-- The packet of slot 2 as it goes out.
+abbrev pub as35 : ℕ → List ℕ
+as35 D = packetWith 1 35 D
+
+-- "equal keys in slots 9 and 2: slot 2": on time, with one deadline, and early, with one time.
 unfoldable pub tieOnTime : Row
-tieOnTime = record { d = 40; horizon = 0; time = 210; u = pos 210; stored = record { slot = 2; u = pos 235; d = 15 } ∷ []; next = 9; met = isOnTime 10 250; port = shows (onTime 2) (storedAs 250) }
+tieOnTime = tie (record { horizon = 0; time2 = 240; u2 = pos 240; time9 = 210; u9 = pos 210 }) (sendsOnTime (as35 250) (replicate 5 1)) (isOnTime 2 (as35 250) 10 sent ∷ isOnTime 9 (other33 250) 10 left ∷ [])
 
 unfoldable pub tieEarly : Row
-tieEarly = record { d = 40; horizon = 96; time = 80; u = pos 336; stored = record { slot = 9; u = pos 336; d = 20 } ∷ []; next = 2; met = isEarly 96 120; port = shows (early 2) (arrivedAs 120) }
+tieEarly = tie (record { horizon = 96; time2 = 80; u2 = pos 336; time9 = 80; u9 = pos 336 }) (sendsEarly (as35 90) (replicate 5 1)) (isEarly 2 (as35 90) 96 sent ∷ isEarly 9 (other33 120) 96 left ∷ [])
+
+-- ---- the table
 
 unfoldable pub table : List Row
-table = horizon96 ∷ horizon95 ∷ time210 ∷ time200 ∷ time199 ∷ time111 ∷ time112 ∷ time112-d127 ∷ time113-d127 ∷ sent ∷ withdrawn ∷ tieOnTime ∷ tieEarly ∷ []
+table = horizon96 ∷ horizon95 ∷ time210 ∷ time200 ∷ time199 ∷ time111 ∷ time112 ∷ time112-d127 ∷ time113-d127 ∷ time240-sent ∷ time240-withdrawn ∷ tieOnTime ∷ tieEarly ∷ []
 
-abbrev pub PortMeets : Row → Option Port → Type 0
-PortMeets r none = Unit {0}
-PortMeets r (some x) = (portOnBytes r ≡ x) × (portOnWhole r ≡ x)
-
--- A row meets what stands in it, at both routers, and its u is a true time.
+-- What has to be seen is seen at both routers, and the calls are proper: their times are true.
 pub record Meets (r : Row) : Type 0 where
-  pub bytes : onBytes r ≡ r .met
-  pub whole : onWhole r ≡ r .met
-  pub port : PortMeets r (r .port)
-  pub times : isTrue r ≡ true
+  pub bytes : onBytes r ≡ expected r
+  pub whole : onWhole r ≡ expected r
+  pub proper : Proper 1 (start (r .from)) (r .earlier ++ (lent (r .tick) ∷ []))
 
 unfoldable pub AllMeet : List Row → Type 0
 AllMeet [] = Unit {0}
 AllMeet (r ∷ rs) = Meets r × AllMeet rs
 
+-- ---- no third
+
+-- "sent in this tick or withdrawn in it": on port p the tick d does one of the two with x, once, if the mask of x has p, and neither if it hasn't. What is sent goes out with its bytes.
+pub record SentOrWithdrawn (d : Done) (x : Packet) (p : ℕ) : Type 0 where
+  pub one : counted (isSent x (d .report .grant p)) + times x (d .report .withdrawn p) ≡ counted (has (x .mask) p)
+  pub bytes : isSent x (d .report .grant p) ≡ true → packet (d .outgoing) p ≡ packetBytes 1 x
+
+-- In every run from a fresh router: a packet that arrives in its deadline tick, as one of time 240 and d = 0 at t = 240, and is accepted, is sent or withdrawn in that tick.
+unfoldable pub NoThird : Type 0
+NoThird = (t : ℕ) → t < 256 → (ks : List Call) → Proper 1 (start t) ks → let h = history board8 (fresh board8 t) (start t) ks in
+    (x : Packet) → Accepted h x → x .deadline ≡ x .arrived → (d : Done) → List·Memᴰ d h → d .met .clock ≡ x .arrived → (p : ℕ) → p < 5 → SentOrWithdrawn d x p
+
 -- Every case marked P.
 unfoldable pub Cases : Type 0
-Cases = AllMeet table
+Cases = AllMeet table × NoThird

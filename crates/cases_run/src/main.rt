@@ -1,61 +1,108 @@
-// Runs document 01's cases through the router's entries, and prints of each what is expected and what was found.
+// Runs document 01's cases through the router's entries, compares all outgoing and answer bytes, and prints of each case what is expected and what was found.
+ghost use Prim.Native.Nat.{_≤_};
+ghost use mathlib.Core.Path.{_≡_};
+ghost use mathlib.Core.Bool.{true};
 use fresh::Router;
 use libc::STDOUT_FILENO;
 use tapes::stepping;
 use tapes::stepping::Waiting;
 
-// What a tick says of port 0: the arrival's answer and the port's, the identifier and the deadline that left, the packets withdrawn.
-struct Seen {
-    arrival: u8,
-    port: u8,
-    identifier: u8,
-    deadline: u8,
-    withdrawn: u8,
-}
-
 fn print(text: &[u8]) {
     io::write_all(STDOUT_FILENO, text);
 }
 
-fn print_seen(seen: Seen) {
-    print(b" arrival ");
-    io::print_decimal(STDOUT_FILENO, seen.arrival as u64);
-    print(b" port ");
-    io::print_decimal(STDOUT_FILENO, seen.port as u64);
-    print(b" identifier ");
-    io::print_decimal(STDOUT_FILENO, seen.identifier as u64);
-    print(b" deadline ");
-    io::print_decimal(STDOUT_FILENO, seen.deadline as u64);
-    print(b" withdrawn ");
-    io::print_decimal(STDOUT_FILENO, seen.withdrawn as u64);
-}
-
-fn is_same(a: Seen, b: Seen) -> bool {
-    if a.arrival != b.arrival {
-        return false;
-    }
-    if a.port != b.port {
-        return false;
-    }
-    if a.identifier != b.identifier {
-        return false;
-    }
-    if a.deadline != b.deadline {
-        return false;
-    }
-    a.withdrawn == b.withdrawn
-}
-
-fn report(name: &[u8], expected: Seen, found: Seen) {
+fn print_byte(name: &[u8], area: &[u8], at: usize) {
     print(name);
-    print(b": expected");
-    print_seen(expected);
-    print(b", found");
-    print_seen(found);
-    if is_same(expected, found) {
+    io::print_decimal(STDOUT_FILENO, area::byte(area, at) as u64);
+}
+
+// What a tick says of port 0: the arrival's answer and the port's, the identifier, the deadline and the first data byte that left, the packets withdrawn.
+fn print_seen(outgoing: &[u8], answers: &[u8]) {
+    print_byte(b" arrival ", answers, 5);
+    print_byte(b" port ", answers, 0);
+    print_byte(b" identifier ", outgoing, 0);
+    print_byte(b" deadline ", outgoing, 1);
+    print_byte(b" data ", outgoing, 2);
+    print_byte(b" withdrawn ", answers, 11);
+}
+
+fn print_verdict(same: bool) {
+    if same {
         print(b": ok\n");
     } else {
         print(b": DIFFERS\n");
+    }
+}
+
+fn is_same(a: &[u8], b: &[u8]) -> bool
+    ensures { λ r. ⌜ (r ≡ true → now (a .entry) ≡ now (b .entry)) ⌝ }
+{
+    if a.len() != b.len() {
+        return false;
+    }
+    let mut i = 0;
+    while i < a.len() {
+        if a[i] != b[i] {
+            return false;
+        }
+        i += 1;
+    }
+    true
+}
+
+// Outgoing and answers as they should be and as they are.
+fn report(name: &[u8], expected: &[u8], answers: &[u8], outgoing: &[u8], answered: &[u8]) {
+    print(name);
+    print(b": expected");
+    print_seen(expected, answers);
+    print(b", found");
+    print_seen(outgoing, answered);
+    if is_same(expected, outgoing) {
+        print_verdict(is_same(answers, answered));
+    } else {
+        print_verdict(false);
+    }
+}
+
+fn report_number(name: &[u8], expected: u64, found: u64) {
+    print(name);
+    print(b": expected ");
+    io::print_decimal(STDOUT_FILENO, expected);
+    print(b", found ");
+    io::print_decimal(STDOUT_FILENO, found);
+    print_verdict(expected == found);
+}
+
+// Data bytes turn over at 256.
+fn plus(data: u8, n: u8) -> u8 {
+    std::num::wrapping_add_u8(data, n)
+}
+
+// A packet of a port: identifier, time and 18 bytes of data, which count up from `data`.
+fn put_packet(area: &mut [u8], port: usize, identifier: u8, time: u8, data: u8) {
+    if port < 5 {
+        area::put_byte(area, 20 * port, identifier);
+        area::put_byte(area, 20 * port + 1, time);
+        put_data(area, 20 * port + 2, data);
+    }
+}
+
+fn put_data(area: &mut [u8], at: usize, data: u8)
+    requires { ⌜ at ≤ 82 ⌝ }
+{
+    let mut i: u8 = 0;
+    while i < 18 {
+        area::put_byte(area, at + i as usize, plus(data, i));
+        i += 1;
+    }
+}
+
+// What is expected of port 0: its arrival's answer and its own, and, if it sends, identifier 33, a deadline and the data 1, 2, ..
+fn expect(expected: &mut [u8], answers: &mut [u8], arrival: u8, port: u8, deadline: u8) {
+    area::put_byte(answers, 0, port);
+    area::put_byte(answers, 5, arrival);
+    if port != 0 {
+        put_packet(expected, 0, 33, deadline, 1);
     }
 }
 
@@ -67,39 +114,6 @@ fn connect(state: &mut [u8], memory: &[u8], incoming: u8, outgoing: u8, delay: u
     router::router_control(state, memory, 3, incoming);
 }
 
-fn put_arrival(arrivals: &mut [u8], port: usize, identifier: u8, time: u8) {
-    if port < 5 {
-        area::put_byte(arrivals, 20 * port, identifier);
-        area::put_byte(arrivals, 20 * port + 1, time);
-    }
-}
-
-fn see(outgoing: &[u8], answers: &[u8]) -> Seen {
-    Seen {
-        arrival: area::byte(answers, 5),
-        port: area::byte(answers, 0),
-        identifier: area::byte(outgoing, 0),
-        deadline: area::byte(outgoing, 1),
-        withdrawn: area::byte(answers, 11),
-    }
-}
-
-// A tick without best-effort, and what it says of port 0.
-fn tick(state: &mut [u8], memory: &mut [u8], arrivals: &[u8], arriving: u8) -> Seen {
-    let mut outgoing = [0u8; Router::OUTGOING];
-    let mut answers = [0u8; Router::ANSWERS];
-    router::router_tick(
-        state,
-        memory,
-        arrivals,
-        &mut outgoing,
-        &mut answers,
-        arriving,
-        0,
-    );
-    see(&outgoing, &answers)
-}
-
 // A fresh router with connection 5 to port 0, as 33.
 fn prepare(state: &mut [u8], memory: &mut [u8], clock: u8, delay: u8, horizon: u8) {
     router::router_fresh(state, memory, clock);
@@ -108,171 +122,103 @@ fn prepare(state: &mut [u8], memory: &mut [u8], clock: u8, delay: u8, horizon: u
     router::router_control(state, memory, 5, horizon);
 }
 
-// One packet at t = 240: its delay, its port's horizon, its time.
-fn one(delay: u8, horizon: u8, time: u8) -> Seen {
+// A tick without best-effort, compared with what is expected. Outgoing and answers are lent full of nines.
+fn tick(
+    state: &mut [u8],
+    memory: &mut [u8],
+    arrivals: &[u8],
+    arriving: u8,
+    name: &[u8],
+    expected: &[u8],
+    answers: &[u8],
+) {
+    let mut outgoing = [9u8; Router::OUTGOING];
+    let mut answered = [9u8; Router::ANSWERS];
+    router::router_tick(
+        state,
+        memory,
+        arrivals,
+        &mut outgoing,
+        &mut answered,
+        arriving,
+        0,
+    );
+    report(name, expected, answers, &outgoing, &answered);
+}
+
+// One packet at t = 240: its delay, its port's horizon, its time; the arrival's answer and the port's, and the deadline that it leaves with.
+fn one(name: &[u8], delay: u8, horizon: u8, time: u8, arrival: u8, port: u8, deadline: u8) {
     let mut state = [0u8; Router::STATE];
     let mut memory = [0u8; Router::MEMORY];
     let mut arrivals = [0u8; Router::ARRIVALS];
+    let mut expected = [0u8; Router::OUTGOING];
+    let mut answers = [0u8; Router::ANSWERS];
     prepare(&mut state, &mut memory, 240, delay, horizon);
-    put_arrival(&mut arrivals, 0, 5, time);
-    tick(&mut state, &mut memory, &arrivals, 1)
-}
-
-fn horizons() {
-    report(
-        b"time 80, horizon 96",
-        Seen {
-            arrival: 1,
-            port: 3,
-            identifier: 33,
-            deadline: 120,
-            withdrawn: 0,
-        },
-        one(40, 96, 80),
-    );
-    report(
-        b"time 80, horizon 95",
-        Seen {
-            arrival: 1,
-            port: 0,
-            identifier: 0,
-            deadline: 0,
-            withdrawn: 0,
-        },
-        one(40, 95, 80),
-    );
-    report(
-        b"time 111, horizon 127",
-        Seen {
-            arrival: 1,
-            port: 3,
-            identifier: 33,
-            deadline: 151,
-            withdrawn: 0,
-        },
-        one(40, 127, 111),
-    );
-    report(
-        b"time 111, horizon 126",
-        Seen {
-            arrival: 1,
-            port: 0,
-            identifier: 0,
-            deadline: 0,
-            withdrawn: 0,
-        },
-        one(40, 126, 111),
+    put_packet(&mut arrivals, 0, 5, time, 1);
+    expect(&mut expected, &mut answers, arrival, port, deadline);
+    tick(
+        &mut state,
+        &mut memory,
+        &arrivals,
+        1,
+        name,
+        &expected,
+        &answers,
     );
 }
 
-fn on_time() {
-    report(
-        b"time 210",
-        Seen {
-            arrival: 1,
-            port: 1,
-            identifier: 33,
-            deadline: 250,
-            withdrawn: 0,
-        },
-        one(40, 0, 210),
-    );
-    report(
-        b"time 200",
-        Seen {
-            arrival: 1,
-            port: 1,
-            identifier: 33,
-            deadline: 240,
-            withdrawn: 0,
-        },
-        one(40, 0, 200),
-    );
-    report(
-        b"time 199",
-        Seen {
-            arrival: 7,
-            port: 0,
-            identifier: 0,
-            deadline: 0,
-            withdrawn: 0,
-        },
-        one(40, 0, 199),
-    );
+fn one_packet() {
+    one(b"time 80, horizon 96", 40, 96, 80, 1, 3, 120);
+    one(b"time 80, horizon 95", 40, 95, 80, 1, 0, 0);
+    one(b"time 111, horizon 127", 40, 127, 111, 1, 3, 151);
+    one(b"time 111, horizon 126", 40, 126, 111, 1, 0, 0);
+    one(b"time 210", 40, 0, 210, 1, 1, 250);
+    one(b"time 200", 40, 0, 200, 1, 1, 240);
+    one(b"time 199", 40, 0, 199, 7, 0, 0);
+    one(b"time 112", 40, 127, 112, 7, 0, 0);
+    one(b"time 112, d = 127", 127, 127, 112, 7, 0, 0);
+    one(b"time 113, d = 127", 127, 0, 113, 1, 1, 240);
+    one(b"time 240, d = 0", 0, 0, 240, 1, 1, 240);
 }
 
-fn far() {
-    report(
-        b"time 112",
-        Seen {
-            arrival: 7,
-            port: 0,
-            identifier: 0,
-            deadline: 0,
-            withdrawn: 0,
-        },
-        one(40, 127, 112),
-    );
-    report(
-        b"time 112, d = 127",
-        Seen {
-            arrival: 7,
-            port: 0,
-            identifier: 0,
-            deadline: 0,
-            withdrawn: 0,
-        },
-        one(127, 127, 112),
-    );
-    report(
-        b"time 113, d = 127",
-        Seen {
-            arrival: 1,
-            port: 1,
-            identifier: 33,
-            deadline: 240,
-            withdrawn: 0,
-        },
-        one(127, 0, 113),
-    );
-    report(
-        b"time 240, d = 0",
-        Seen {
-            arrival: 1,
-            port: 1,
-            identifier: 33,
-            deadline: 240,
-            withdrawn: 0,
-        },
-        one(0, 0, 240),
-    );
+// The second of two is stored too, and withdrawn.
+fn expect_two(expected: &mut [u8], answers: &mut [u8]) {
+    expect(expected, answers, 1, 1, 240);
+    area::put_byte(answers, 6, 1);
+    area::put_byte(answers, 11, 1);
 }
 
-fn two() -> Seen {
-    let mut state = [0u8; Router::STATE];
-    let mut memory = [0u8; Router::MEMORY];
+// Two packets of time 240 and d = 0, on ports 0 and 1.
+fn two_packets(state: &mut [u8], memory: &mut [u8]) {
     let mut arrivals = [0u8; Router::ARRIVALS];
-    prepare(&mut state, &mut memory, 240, 0, 0);
-    put_arrival(&mut arrivals, 0, 5, 240);
-    put_arrival(&mut arrivals, 1, 5, 240);
-    tick(&mut state, &mut memory, &arrivals, 3)
+    let mut expected = [0u8; Router::OUTGOING];
+    let mut answers = [0u8; Router::ANSWERS];
+    prepare(state, memory, 240, 0, 0);
+    put_packet(&mut arrivals, 0, 5, 240, 1);
+    put_packet(&mut arrivals, 1, 5, 240, 101);
+    expect_two(&mut expected, &mut answers);
+    tick(
+        state,
+        memory,
+        &arrivals,
+        3,
+        b"time 240, d = 0, two of them",
+        &expected,
+        &answers,
+    );
 }
 
-// Five arrivals of one time, and a tick.
-fn tick_five(state: &mut [u8], memory: &mut [u8], ids: [u8; 5], time: u8) -> Seen {
+// A tick with five arrivals of one time, the first with this data and each with one more.
+fn tick_five(state: &mut [u8], memory: &mut [u8], ids: [u8; 5], time: u8, data: u8) {
     let mut arrivals = [0u8; Router::ARRIVALS];
-    put_arrival(&mut arrivals, 0, ids[0], time);
-    put_arrival(&mut arrivals, 1, ids[1], time);
-    put_arrival(&mut arrivals, 2, ids[2], time);
-    put_arrival(&mut arrivals, 3, ids[3], time);
-    put_arrival(&mut arrivals, 4, ids[4], time);
-    tick(state, memory, &arrivals, 31)
-}
-
-// A tick without arrivals.
-fn tick_only(state: &mut [u8], memory: &mut [u8]) -> Seen {
-    let arrivals = [0u8; Router::ARRIVALS];
-    tick(state, memory, &arrivals, 0)
+    let mut outgoing = [0u8; Router::OUTGOING];
+    let mut answers = [0u8; Router::ANSWERS];
+    put_packet(&mut arrivals, 0, ids[0], time, data);
+    put_packet(&mut arrivals, 1, ids[1], time, plus(data, 1));
+    put_packet(&mut arrivals, 2, ids[2], time, plus(data, 2));
+    put_packet(&mut arrivals, 3, ids[3], time, plus(data, 3));
+    put_packet(&mut arrivals, 4, ids[4], time, plus(data, 4));
+    router::router_tick(state, memory, &arrivals, &mut outgoing, &mut answers, 31, 0);
 }
 
 // Connections 1 and 2 have one delay and port 0, connection 3 has port 4.
@@ -286,98 +232,80 @@ fn connect_three(state: &mut [u8], memory: &mut [u8]) {
 // Slots 2 and 9 get packets of connections 1 and 2, the others get those of connection 3.
 fn fill_ten(state: &mut [u8], memory: &mut [u8]) {
     connect_three(state, memory);
-    tick_five(state, memory, [3, 3, 1, 3, 3], 240);
-    tick_five(state, memory, [3, 3, 3, 3, 2], 240);
+    tick_five(state, memory, [3, 3, 1, 3, 3], 240, 1);
+    tick_five(state, memory, [3, 3, 3, 3, 2], 240, 6);
+}
+
+// A tick without arrivals, in which port 0 sends a packet of this identifier and data, and port 4 one of connection 3.
+fn tick_ten(state: &mut [u8], memory: &mut [u8], name: &[u8], identifier: u8, data: u8, third: u8) {
+    let arrivals = [0u8; Router::ARRIVALS];
+    let mut expected = [0u8; Router::OUTGOING];
+    let mut answers = [0u8; Router::ANSWERS];
+    put_packet(&mut expected, 0, identifier, 24, data);
+    put_packet(&mut expected, 4, 3, 24, third);
+    area::put_byte(&mut answers, 0, 1);
+    area::put_byte(&mut answers, 4, 1);
+    tick(state, memory, &arrivals, 0, name, &expected, &answers);
 }
 
 fn equal_keys(state: &mut [u8], memory: &mut [u8]) {
     fill_ten(state, memory);
-    let first = tick_only(state, memory);
-    let second = tick_only(state, memory);
-    report(
+    tick_ten(
+        state,
+        memory,
         b"equal keys in slots 9 and 2, first",
-        Seen {
-            arrival: 0,
-            port: 1,
-            identifier: 2,
-            deadline: 24,
-            withdrawn: 0,
-        },
-        first,
+        2,
+        3,
+        1,
     );
-    report(
+    tick_ten(
+        state,
+        memory,
         b"equal keys in slots 9 and 2, next",
-        Seen {
-            arrival: 0,
-            port: 1,
-            identifier: 9,
-            deadline: 24,
-            withdrawn: 0,
-        },
-        second,
+        9,
+        10,
+        2,
     );
 }
 
-fn report_number(name: &[u8], expected: u64, found: u64) {
-    print(name);
-    print(b": expected ");
-    io::print_decimal(STDOUT_FILENO, expected);
-    print(b", found ");
-    io::print_decimal(STDOUT_FILENO, found);
-    if expected == found {
-        print(b": ok\n");
-    } else {
-        print(b": DIFFERS\n");
-    }
-}
-
-// How many addresses are idle, and, of 256, the one that is taken next.
+// How many addresses are idle.
 fn idle_count(state: &[u8]) -> u64 {
     (area::byte(state, 10) as u64) * 256 + area::byte(state, 11) as u64
 }
 
-fn report_ports(answers: &[u8]) {
-    report_number(
-        b"mask 31, time 240, port 0",
-        1,
-        area::byte(answers, 0) as u64,
-    );
-    report_number(
-        b"mask 31, time 240, port 1",
-        1,
-        area::byte(answers, 1) as u64,
-    );
-    report_number(
-        b"mask 31, time 240, port 2",
-        1,
-        area::byte(answers, 2) as u64,
-    );
-    report_number(
-        b"mask 31, time 240, port 3",
-        1,
-        area::byte(answers, 3) as u64,
-    );
-    report_number(
-        b"mask 31, time 240, port 4",
-        1,
-        area::byte(answers, 4) as u64,
-    );
+// The same packet on all five ports.
+fn put_five(expected: &mut [u8], answers: &mut [u8]) {
+    let mut port = 0;
+    while port < 5 {
+        put_packet(expected, port, 33, 24, 1);
+        area::put_byte(answers, port, 1);
+        port += 1;
+    }
 }
 
-// A tick with an arrival of connection 5 on port 0.
-fn tick_ports(state: &mut [u8], memory: &mut [u8]) {
+// A packet for all five ports arrives.
+fn tick_all(state: &mut [u8], memory: &mut [u8]) {
     let mut arrivals = [0u8; Router::ARRIVALS];
-    let mut outgoing = [0u8; Router::OUTGOING];
+    let mut expected = [0u8; Router::OUTGOING];
     let mut answers = [0u8; Router::ANSWERS];
-    put_arrival(&mut arrivals, 0, 5, 240);
-    router::router_tick(state, memory, &arrivals, &mut outgoing, &mut answers, 1, 0);
-    report_ports(&answers);
+    put_packet(&mut arrivals, 0, 5, 240, 1);
+    put_five(&mut expected, &mut answers);
+    area::put_byte(&mut answers, 5, 1);
+    tick(
+        state,
+        memory,
+        &arrivals,
+        1,
+        b"mask 31, time 240, all five ports",
+        &expected,
+        &answers,
+    );
 }
 
 fn five_ports(state: &mut [u8], memory: &mut [u8]) {
     router::router_fresh(state, memory, 240);
     connect(state, memory, 5, 33, 40, 31);
-    tick_ports(state, memory);
+    tick_all(state, memory);
     report_number(b"mask 31, time 240, idle addresses", 256, idle_count(state));
     report_number(
         b"mask 31, time 240, next address",
@@ -388,50 +316,29 @@ fn five_ports(state: &mut [u8], memory: &mut [u8]) {
 
 // Stores 255 packets for time 240, five a tick.
 fn fill(state: &mut [u8], memory: &mut [u8]) {
-    let mut i: usize = 0;
+    let mut i: u8 = 0;
     while i < 51 {
-        tick_five(state, memory, [5; 5], 240);
+        tick_five(state, memory, [5; 5], 240, 5 * i + 1);
         i += 1;
     }
 }
 
-fn tick_one(state: &mut [u8], memory: &mut [u8]) -> Seen {
+// A tick with an arrival on port 0, and its answer; what port 0 sends, if it does, has the data of the first packet.
+fn tick_one(state: &mut [u8], memory: &mut [u8], name: &[u8], arrival: u8, port: u8) {
     let mut arrivals = [0u8; Router::ARRIVALS];
-    put_arrival(&mut arrivals, 0, 5, 240);
-    tick(state, memory, &arrivals, 1)
+    let mut expected = [0u8; Router::OUTGOING];
+    let mut answers = [0u8; Router::ANSWERS];
+    put_packet(&mut arrivals, 0, 5, 240, 0);
+    expect(&mut expected, &mut answers, arrival, port, 24);
+    tick(state, memory, &arrivals, 1, name, &expected, &answers);
 }
 
 fn all_stored(state: &mut [u8], memory: &mut [u8]) {
     prepare(state, memory, 188, 40, 0);
     fill(state, memory);
-    let last = tick_one(state, memory);
-    report(
-        b"the 256th packet",
-        Seen {
-            arrival: 1,
-            port: 0,
-            identifier: 0,
-            deadline: 0,
-            withdrawn: 0,
-        },
-        last,
-    );
+    tick_one(state, memory, b"the 256th packet", 1, 0);
     report_number(b"256 stored, idle addresses", 0, idle_count(state));
-}
-
-fn one_more(state: &mut [u8], memory: &mut [u8]) {
-    let next = tick_one(state, memory);
-    report(
-        b"256 stored, the next arrival",
-        Seen {
-            arrival: 8,
-            port: 1,
-            identifier: 33,
-            deadline: 24,
-            withdrawn: 0,
-        },
-        next,
-    );
+    tick_one(state, memory, b"256 stored, the next arrival", 8, 1);
     report_number(
         b"256 stored, idle addresses after that tick",
         1,
@@ -468,8 +375,8 @@ fn put_arrival_packet(tape: &mut [u8]) {
     area::put_byte(tape, 101, 1);
 }
 
-// The lines of a tape of eight records as they come.
-fn print_tape(state: &mut [u8], memory: &mut [u8], tape: &[u8; 192]) {
+// The lines of a tape of eight records.
+fn run_tape(state: &mut [u8], memory: &mut [u8], tape: &[u8; 192], expected: &[u8]) {
     let mut arrivals = [0u8; Router::ARRIVALS];
     let mut lines = [0u8; 1344];
     let waiting = Waiting {
@@ -478,7 +385,16 @@ fn print_tape(state: &mut [u8], memory: &mut [u8], tape: &[u8; 192]) {
     };
     let stepped = stepping::run(state, memory, &mut arrivals, waiting, 0, tape, &mut lines);
     let length = stepped.length;
-    print(&lines[..length]);
+    report_lines(expected, &lines[..length]);
+}
+
+fn report_lines(expected: &[u8], found: &[u8]) {
+    print(b"the tape's worked example: expected\n");
+    print(expected);
+    print(b"found\n");
+    print(found);
+    print(b"the tape's worked example");
+    print_verdict(is_same(expected, found));
 }
 
 fn worked_example(state: &mut [u8], memory: &mut [u8]) {
@@ -486,36 +402,21 @@ fn worked_example(state: &mut [u8], memory: &mut [u8]) {
     put_controls(&mut tape);
     put_rest(&mut tape);
     router::router_fresh(state, memory, 0);
-    print(
-        b"the tape's worked example: expected\nT 000 --- --- --- --- --- 0000\nT 001 --- 21N --- --- --- 0000\nR 000008 11\nfound\n",
+    run_tape(
+        state,
+        memory,
+        &tape,
+        b"T 000 --- --- --- --- --- 0000\nT 001 --- 21N --- --- --- 0000\nR 000008 11\n",
     );
-    print_tape(state, memory, &tape);
-}
-
-fn others(state: &mut [u8], memory: &mut [u8]) {
-    equal_keys(state, memory);
-    five_ports(state, memory);
-    all_stored(state, memory);
-    one_more(state, memory);
-    worked_example(state, memory);
 }
 
 fn main() {
     let mut state = [0u8; Router::STATE];
     let mut memory = [0u8; Router::MEMORY];
-    horizons();
-    on_time();
-    far();
-    report(
-        b"time 240, d = 0, two of them",
-        Seen {
-            arrival: 1,
-            port: 1,
-            identifier: 33,
-            deadline: 240,
-            withdrawn: 1,
-        },
-        two(),
-    );
-    others(&mut state, &mut memory);
+    one_packet();
+    two_packets(&mut state, &mut memory);
+    equal_keys(&mut state, &mut memory);
+    five_ports(&mut state, &mut memory);
+    all_stored(&mut state, &mut memory);
+    worked_example(&mut state, &mut memory);
 }

@@ -90,11 +90,11 @@ module _ (B : Board) (L : Laws B) where
   -- ---- one call
 
   -- The two outcomes of a call at the router w agree, and what it notes makes a run.
-  record Agree (w : Router) (k : Call) (o : Outcome) (q : Step) : Type 0 where
-    rel : Rel B L (o .store) (q .router)
-    good : Good c (q .router)
-    reply : o .reply ≡ q .reply
-    runs : {h : List Done} {z : Router} → Run c (q .router) h z → Run c w (noted w k (o .reply .outgoing) (q .report) h) z
+  pub record Agree (w : Router) (k : Call) (o : Outcome) (q : Step) : Type 0 where
+    pub rel : Rel B L (o .store) (q .router)
+    pub good : Good c (q .router)
+    pub reply : o .reply ≡ q .reply
+    pub runs : {h : List Done} {z : Router} → Run c (q .router) h z → Run c w (noted w k (o .reply .outgoing) (q .report) h) z
 
   module _ {r : Store} {w : Router} (R : Rel B L r w) (G : Good c w) where
     -- The first two questions are passed, so the others alone decide.
@@ -117,7 +117,7 @@ module _ (B : Board) (L : Laws B) where
     decided false f g = g
 
     -- An accepted call by the lemma of its kind, a refused one changes nothing in either router.
-    agree : (k : Call) → ByteCall c k → TrueTimes c w k → Agree w k (byteStep B r k) (wholeStep c w k)
+    pub agree : (k : Call) → ByteCall c k → TrueTimes c w k → Agree w k (byteStep B r k) (wholeStep c w k)
     unfolding byteStep Entry.controlWrite Entry.tick wholeStep accept refuse noted settings
     agree (control register v) hb ht = rw (control-number register v) (decided (eqb (refusal c (control register v)) 0) accepted (record { rel = R; good = G; reply = refl; runs = λ S. S }))
       where

@@ -2,7 +2,6 @@
 -- Assumes nothing.
 use Prim.Native.Nat.{_-_, _≤_}
 use mathlib.Core.Path.{_≡_, refl}
-use native.Mathlib.Omega.{arith}
 use lib.ListN.{length}
 use borrow.Author.Needs.{needs}
 use Rattle.cases_run.proofs.fill.Statement.{statement}
@@ -17,6 +16,12 @@ abbrev μ-loop : tie.MeasureT-loop
 
 loop-holds : tie.Need-loop-holds Inv-loop μ-loop
 loop-holds c = (search needs, refl, refl)
+
+mul-tick-five : tie.Need-mul-tick-five Inv-loop μ-loop
+mul-tick-five c = search needs
+
+add-tick-five : tie.Need-add-tick-five Inv-loop μ-loop
+add-tick-five c = search needs
 
 tick-five-requires : tie.Need-tick-five-requires Inv-loop μ-loop
 tick-five-requires c κs = search needs
@@ -46,6 +51,8 @@ fill-spec =
     Inv-loop
     μ-loop
     loop-holds
+    mul-tick-five
+    add-tick-five
     tick-five-requires
     add-i
     loop-less

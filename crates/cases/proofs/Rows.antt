@@ -1,0 +1,99 @@
+-- What is seen of a row at the router over bytes, in terms of the router that never turns over: store and places are related once the arrivals are stored, and at the tick's end. Assumes nothing.
+use Prim.Native.Nat.{ℕ, zero, suc, _<_}
+use mathlib.Core.Path.{_≡_, refl, _∙_}
+use mathlib.Core.Bool.{true, cond, _&&_}
+use mathlib.Core.List.{List, [], _∷_, _++_}
+use mathlib.Core.Option.{Option, none, some}
+use native.Mathlib.Omega.{arith}
+use lib.IntN.{pos}
+use lib.Signed.{leZ, ltZ}
+use Rattle.rules.specs.Clock.{cut, minus, offset}
+use Rattle.rules.specs.Areas.{Store, bits, packet, has}
+use Rattle.rules.specs.Board.{clock, mask}
+use Rattle.rules.specs.Board8.{board8}
+use Rattle.rules.specs.Tick as Bytes
+use Rattle.rules.specs.Whole.{Router, Held, start, packetBytes}
+use Rattle.rules.specs.Calls.{refusal, wholeStep, Proper}
+use Rattle.rules.specs.Demand3.{byteStep}
+use Rattle.rules.proofs.Masks.{has-zero}
+use Rattle.rules.proofs.Relation.{Here, Rel}
+use Rattle.rules.proofs.Board8Laws.{lawful8}
+use Rattle.rules.proofs.Agreement.{Agree}
+use Rattle.cases.specs.Shorthand.{nines, lent}
+use Rattle.cases.specs.Rows.{Waiting, Seen, Row, expected, listed, before, outcome, arrived, whole, sameBytes, fateOf, waitingOnBytes, onBytes, beforeWhole, arrivedWhole, onWhole}
+use Rattle.cases.specs.Table.{Meets}
+use Rattle.cases.proofs.Proper.{isProper, proper}
+use Rattle.cases.proofs.Reached.{met, ended, arrived-related}
+
+listed-same : (f g : ℕ → Option Waiting) (n : ℕ) → ((i : ℕ) → i < n → f i ≡ g i) → listed f n ≡ listed g n
+unfolding listed
+listed-same f g zero e = refl
+listed-same f g (suc n) e = rw (listed-same f g n (λ i l. e i (omega arith)), e n (omega arith))
+
+-- The packet in slot i by what the fields read: the clock t, and the slot's mask m, time v, deadline D and bytes k; m′ is its mask after the tick, and `out` went out on port 0.
+abbrev by-fields : ℕ → ℕ → List ℕ → ℕ → ℕ → ℕ → ℕ → List ℕ → Option Waiting
+by-fields t i out m v D m′ k =
+    let o = offset (bits 1) v t in
+    cond (has m 0)
+    (some (record {
+      slot = i;
+      bytes = k;
+      onTimeKey = whole (cond (has m 0 && leZ o (pos 0)) (some (minus (bits 1) D t)) none);
+      earlyKey = whole (cond (has m 0 && ltZ (pos 0) o) (some (minus (bits 1) v t)) none);
+      fate = fateOf (has m′ 0) (sameBytes k out);
+    })) none
+
+-- The ports left at a place.
+unfoldable pub ports-left : Option Held → ℕ
+ports-left none = 0
+ports-left (some x) = x .left
+
+-- The same by what its place holds, before the ports are served and at the end.
+unfoldable pub by-places : ℕ → ℕ → List ℕ → Option Held → Option Held → Option Waiting
+by-places t i out none v = none
+by-places t i out (some x) v = by-fields t i out (x .left) (cut (bits 1) (x .packet .time)) (cut (bits 1) (x .packet .deadline)) (ports-left v) (packetBytes 1 (x .packet))
+
+unfoldable pub by-router : Row → Seen
+by-router r =
+    let o = wholeStep 1 (beforeWhole r) (lent (r .tick)) in
+    record {
+      clock = pos (cut (bits 1) (beforeWhole r .clock));
+      reply = o .reply;
+      waiting = listed (λ i. by-places (cut (bits 1) (arrivedWhole r .clock)) i (packet (o .reply .outgoing) 0) (arrivedWhole r .place i) (o .router .place i)) 256;
+    }
+
+module _ (r : Row) (h : r .from < 256) (P : Proper 1 (start (r .from)) (r .earlier ++ (lent (r .tick) ∷ []))) (e : refusal 1 (lent (r .tick)) ≡ 0) where
+  abbrev end : Router
+  end = wholeStep 1 (beforeWhole r) (lent (r .tick)) .router
+
+  -- What both routers do in the tick.
+  done : Agree board8 lawful8 (beforeWhole r) (lent (r .tick)) (byteStep board8 (before r) (lent (r .tick))) (wholeStep 1 (beforeWhole r) (lent (r .tick)))
+  unfolding before beforeWhole
+  done = ended (r .from) h (r .earlier) (r .tick) (nines 100) (nines 20) P
+
+  -- A slot's mask is what its place has left.
+  mask-left : (s : Store) (i : ℕ) (v : Option Held) → Here board8 lawful8 s i v → board8 .get (s .state) (mask i) ≡ ports-left v
+  unfolding ports-left
+  mask-left s i none S = S
+  mask-left s i (some x) S = S .left
+
+  -- Field by field.
+  slot-seen : (i : ℕ) → i < 256 → waitingOnBytes r i ≡ by-places (cut (bits 1) (arrivedWhole r .clock)) i (packet (outcome r .reply .outgoing) 0) (arrivedWhole r .place i) (end .place i)
+  unfolding waitingOnBytes before outcome arrived beforeWhole arrivedWhole byteStep Bytes.onTimeKey Bytes.earlyKey by-places
+  slot-seen i l = go (arrivedWhole r .place i) (R .place i l)
+    where
+      R : Rel board8 lawful8 (arrived r) (arrivedWhole r)
+      R = arrived-related (r .from) h (r .earlier) (r .tick) (nines 100) (nines 20) P e
+
+      go : (v : Option Held) → Here board8 lawful8 (arrived r) i v → waitingOnBytes r i ≡ by-places (cut (bits 1) (arrivedWhole r .clock)) i (packet (outcome r .reply .outgoing) 0) v (end .place i)
+      go none H = rw (H, has-zero 0 (omega arith))
+      go (some x) H = rw (R .settled .same clock refl (omega arith), H .left, H .time, H .deadline, H .bytes, mask-left (outcome r .store) i (end .place i) (done .rel .place i l))
+
+  -- All that is seen.
+  bytes-seen : onBytes r ≡ by-router r
+  unfolding onBytes by-router before outcome beforeWhole byteStep
+  bytes-seen = rw (listed-same (waitingOnBytes r) _ 256 slot-seen, met (r .from) h (r .earlier) (r .tick) (nines 100) (nines 20) P .rel .settled .same clock refl (omega arith), done .reply)
+
+-- A row is met where the router that never turns over shows it: by what it does, and by what its times cut to a byte make of it.
+pub meets : (r : Row) → r .from < 256 → isProper 1 (start (r .from)) (r .earlier ++ (lent (r .tick) ∷ [])) ≡ true → refusal 1 (lent (r .tick)) ≡ 0 → by-router r ≡ expected r → onWhole r ≡ expected r → Meets r
+meets r h p e b w = let P = proper 1 (r .earlier ++ (lent (r .tick) ∷ [])) (start (r .from)) p in record { bytes = bytes-seen r h P e ∙ b; whole = w; proper = P }
