@@ -5,8 +5,8 @@ use mathlib.Core.Bool.{Bool, true, false, cond, not, _&&_}
 use mathlib.Core.List.{List, [], _∷_, _++_, append-nil}
 use mathlib.Core.Logic.{_≢_}
 use native.Mathlib.Omega.{arith}
-use lib.ListN.{length, getD, take, drop, set, length-append}
-use lib.Seq.{drop-drop, drop-length, sets, sets-eq}
+use lib.ListN.{length, getD, take, drop, set, length-append, length-drop}
+use lib.Seq.{drop-drop, drop-length, length-take-le, sets, sets-eq}
 use lib.Dec.{leb, eqb}
 use borrow.Author.Tests.{eq-eqb, ne-eqb, le-leb, lt-leb, leb-true, eqb-true}
 use Rattle.rules.specs.Areas.{Store, quiet, fits, packet, payload, display, areasFull, answersArea, perPort, grantCode}
@@ -15,7 +15,7 @@ use Rattle.rules.specs.Control.{written}
 use Rattle.rules.specs.Tick.{Outcome, arrival, arrived, grant, grantBytes, served, withdrawals, withdrawn, returned, advanced, ticked}
 use Rattle.rules.specs.Questions.{full, sound, controlRefusal, controlWrite, tickRefusal, tick}
 use Rattle.rules.proofs.Booleans.{and-left, and-right}
-use Rattle.router.specs.Answers.{laid}
+use Rattle.router.specs.Answers.{laid, displayStart}
 
 -- ---- question 1
 
@@ -162,3 +162,27 @@ module _ (s : List ℕ) (p : ℕ) where
   display-data e h =
       let n : 20 * p + 2 + 18 - (20 * p + 2) ≡ 18 = omega arith in
       rw (eq-eqb (length s) 100 e, le-leb p 4 h, n) (sym (data-part (drop (20 * p) s) ∙ rw (drop-drop 2 (20 * p) s)))
+
+  -- The part starts there.
+  abbrev pub StartsAt : ℕ → Type 0
+  StartsAt n = (n ≡ displayStart s p) × (take 18 (drop n s) ≡ display 1 s p)
+
+  -- By what the two questions come to; a part that is there has 18 bytes.
+  start-by : (b : Bool) → (eqb (length s) 100 && leb p 4) ≡ b → StartsAt (cond b (20 * p + 2) (length s)) × (length (display 1 s p) ≡ cond b 18 0)
+  unfolding display displayStart
+  start-by false e = ((rw e, rw e (ap (take 18) (drop-length s))), rw e)
+  start-by true e =
+      let q = eqb (length s) 100 in
+      let long = eqb-true (length s) 100 (and-left q (leb p 4) e) in
+      let port = leb-true p 4 (and-right q (leb p 4) e) in
+      let n : 20 * p + 2 + 18 - (20 * p + 2) ≡ 18 = omega arith in
+      let part : take 18 (drop (20 * p + 2) s) ≡ display 1 s p = ap (λ k. take k (drop (20 * p + 2) s)) (sym n) ∙ display-data long port in
+      let room : 18 ≤ length (drop (20 * p + 2) s) = rw (length-drop (20 * p + 2) s) (omega (arith, long, port)) in
+      ((rw e, part), ap length (sym part) ∙ length-take-le 18 (drop (20 * p + 2) s) room)
+
+  start-if : (b : Bool) → (eqb (length s) 100 && leb p 4) ≡ b → ((length (display 1 s p) ≡ 0) → StartsAt (length s)) × ((length (display 1 s p) ≢ 0) → StartsAt (20 * p + 2))
+  start-if false e = ((λ _. start-by false e .0), (λ h. absurd (h (start-by false e .1))))
+  start-if true e = ((λ h. absurd (omega (arith, h, start-by true e .1))), (λ _. start-by true e .0))
+
+  pub start-of : ((length (display 1 s p) ≡ 0) → StartsAt (length s)) × ((length (display 1 s p) ≢ 0) → StartsAt (20 * p + 2))
+  start-of = start-if (eqb (length s) 100 && leb p 4) refl

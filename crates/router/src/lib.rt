@@ -1,13 +1,13 @@
 // The router's entries: what the board firmware and the display software call.
 ghost use mathlib.Core.Path.{_≡_};
 ghost use Prim.Native.Nat.{_/_, _%_};
-ghost use lib.ListN.{length};
+ghost use lib.ListN.{length, take, drop};
 ghost use Rattle.rules.specs.Areas.{quiet, display, areasFull};
 ghost use Rattle.rules.specs.Board8.{board8};
 ghost use Rattle.rules.specs.Tick.{Outcome, ticked};
 ghost use Rattle.rules.specs.Questions.{full, controlRefusal, tickRefusal, makeFresh, controlWrite, tick};
 ghost use Rattle.fresh.specs.Numbers.{numberOf};
-ghost use Rattle.router.specs.Answers.{Lent, laid};
+ghost use Rattle.router.specs.Answers.{Lent, laid, displayStart};
 use fresh::Refusal;
 use fresh::Router;
 
@@ -218,4 +218,18 @@ pub fn display_part(outgoing: &[u8], port: u8) -> &[u8]
     let start = Router::PACKET * (port as usize) + 2;
     let end = start + 18;
     &outgoing[start..end]
+}
+
+// Where the part starts in the outgoing area; the area's length where it is empty.
+#[no_mangle]
+pub extern "C" fn router_display(outgoing: &[u8], port: u8) -> usize
+    ensures start { λ r. ⌜ r ≡ displayStart (now (outgoing .entry)) port ⌝ }
+    ensures part { λ r. ⌜ take 18 (drop r (now (outgoing .entry))) ≡ display 1 (now (outgoing .entry)) port ⌝ }
+{
+    let part = display_part(outgoing, port);
+    if part.len() == 0 {
+        return outgoing.len();
+    }
+    let packet = Router::PACKET * (port as usize);
+    packet + 2
 }
