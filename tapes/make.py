@@ -1,7 +1,10 @@
 #!/usr/bin/env python3
-"""make.py: writes the tapes of this folder, NAME.tape, and what second.py says of each, NAME.expected. make.py long N: a tape of N records to standard output."""
+"""make.py shipped [FOLDER]: writes the tapes of this folder, NAME.tape, and what second.py says of each, NAME.expected.
+make.py long|numbers|far N: writes a tape of N records to standard output."""
 import os, random, sys
 import second
+
+BLOCK = 1024    # records that the program reads at once
 
 def record(*head):
     return bytes(head) + bytes(24 - len(head))
@@ -101,20 +104,29 @@ def blocks(n=2100):
     """More records than one reading takes, and a rest: ticks, arrivals and refusals by chance (fixed seed)."""
     return chance(1, n) + b"A"
 
-def chance(seed, n):
+def far(n):
+    """A million records by chance, and a rest: the last of each block is an arrival, so that one waits across each boundary. Ticks are rare until shortly before 2^20, to save second.py time."""
+    t = bytearray(chance(n, n, 2 ** 20 - 2 * BLOCK))
+    for k in range(BLOCK, n + 1, BLOCK):
+        t[24 * (k - 1):24 * k] = arrival(k // BLOCK % 5, 255, 0)
+    return bytes(t) + b"T" * 13
+
+def chance(seed, n, rare=0):
+    """n records by chance, with fewer ticks up to record `rare`."""
     r, t, clock = random.Random(seed), b"", 0
     parts = [connect(i, r.randrange(256), r.randrange(128), r.randrange(32)) for i in range(16)] + [horizon(r.randrange(32), r.randrange(128)) for _ in range(4)]
     t = b"".join(parts)
     out, count = [t], len(t) // 24
     while count < n:
-        k = r.randrange(20)
+        ticks = 1 if count < rare else 7
+        k = r.randrange(13 + ticks)
         if k < 11:
             out.append(arrival(r.randrange(5), r.randrange(18), clock + r.randrange(-140, 140), bytes(r.randrange(256) for _ in range(4))))
-        elif k < 18:
+        elif k < 11 + ticks:
             best = r.choice((0, 0, 0, 31, r.randrange(34)))
             out.append(tick(best))
             clock += best < 32
-        elif k == 18:
+        elif k == 11 + ticks:
             out.append(control(r.randrange(7), r.randrange(140)))
         else:
             out.append(bytes([r.choice((0x41, 0x43, 0x54, r.randrange(256))), r.randrange(6), r.randrange(2), r.randrange(2)]) + bytes(20))
@@ -122,15 +134,21 @@ def chance(seed, n):
     return b"".join(out)
 
 TAPES = [refusals, turns, full, multicast, withdrawals, best_effort, empty, rest, blocks]
+MADE = {"long": lambda n: chance(n, n), "numbers": lambda n: record(0) * n, "far": far}
+
+def ship(folder):
+    for make in TAPES:
+        path, tape = os.path.join(folder, make.__name__.replace("_", "-")), make()
+        with open(path + ".tape", "wb") as f:
+            f.write(tape)
+        with open(path + ".expected", "w") as f:
+            f.writelines(second.lines(tape))
 
 if __name__ == "__main__":
-    if sys.argv[1:2] == ["long"]:
-        sys.stdout.buffer.write(chance(int(sys.argv[2]), int(sys.argv[2])))
-    elif sys.argv[1:2] == ["numbers"]:
-        sys.stdout.buffer.write(record(0) * int(sys.argv[2]))
+    what, *words = sys.argv[1:] or ["?"]
+    if what == "shipped" and len(words) < 2:
+        ship(words[0] if words else os.path.dirname(os.path.abspath(__file__)))
+    elif what in MADE and len(words) == 1:
+        sys.stdout.buffer.write(MADE[what](int(words[0])))
     else:
-        for make in TAPES:
-            here = os.path.join(os.path.dirname(os.path.abspath(__file__)), make.__name__.replace("_", "-"))
-            tape = make()
-            open(here + ".tape", "wb").write(tape)
-            open(here + ".expected", "w").write("".join(second.lines(tape)))
+        sys.exit(__doc__)
