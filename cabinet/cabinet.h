@@ -18,6 +18,7 @@ enum { LOCAL, PLUS_X, MINUS_X, PLUS_Y, MINUS_Y };
 /* What a board has done with packets. An arrival for k ports counts k - 1 extra copies. */
 struct account {
     long arrived, extra, sent, withdrawn, closed, late, full;
+    long misjudged; /* full with a slot free, or stored with none */
 };
 
 struct board {
@@ -50,7 +51,8 @@ void mesh_tick(struct mesh *mesh);
 /* After a tick, carries what was sent to the neighbours and advances the time. */
 void mesh_carry(struct mesh *mesh);
 
-/* Copies still to be sent by a board, and packets laid on its ports for the coming tick. */
+/* Free slots of a board, copies it has still to send, and packets laid on its ports for the coming tick. */
+int mesh_free(const struct board *board);
 long mesh_held(const struct board *board);
 long mesh_carried(const struct board *board);
 

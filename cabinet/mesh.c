@@ -22,11 +22,7 @@ static void control(struct board *b, uint8_t reg, uint8_t value)
 
 static int ports_in(unsigned mask)
 {
-    int n = 0;
-
-    for (; mask != 0; mask >>= 1)
-        n += mask & 1;
-    return n;
+    return (mask & 1) + (mask >> 1 & 1) + (mask >> 2 & 1) + (mask >> 3 & 1) + (mask >> 4 & 1);
 }
 
 int neighbour(int board, int port)
@@ -78,7 +74,7 @@ void mesh_inject(struct mesh *mesh, int board, const uint8_t *packet)
 }
 
 /* Adds the answers of a tick to the account. The extra copies of an arrival are known from the table it met. */
-static void book(struct board *b, const uint8_t *table)
+static void book(struct board *b, const uint8_t *table, int free)
 {
     for (int p = 0; p < ROUTER_PORTS; p++) {
         const uint8_t *withdrawn = b->answers + ROUTER_ANSWERS_WITHDRAWN + 2 * p;
@@ -90,8 +86,11 @@ static void book(struct board *b, const uint8_t *table)
         b->account.closed += arrival == ROUTER_ARRIVAL_CLOSED;
         b->account.late += arrival == ROUTER_ARRIVAL_LATE;
         b->account.full += arrival == ROUTER_ARRIVAL_FULL;
-        if (arrival == ROUTER_ARRIVAL_STORED)
+        b->account.misjudged += arrival == (free > 0 ? ROUTER_ARRIVAL_FULL : ROUTER_ARRIVAL_STORED);
+        if (arrival == ROUTER_ARRIVAL_STORED) {
             b->account.extra += ports_in(table[ROUTER_ENTRY_LEN * id + ROUTER_ENTRY_MASK]) - 1;
+            free--;
+        }
         b->account.sent += code == ROUTER_PORT_ON_TIME || code == ROUTER_PORT_EARLY;
         b->account.withdrawn += withdrawn[0] << 8 | withdrawn[1];
     }
@@ -101,12 +100,13 @@ void mesh_tick(struct mesh *mesh)
 {
     for (int i = 0; i < BOARDS; i++) {
         struct board *b = &mesh->board[i];
+        int free = mesh_free(b);
 
         must("a tick is accepted",
              router_tick(b->state, sizeof b->state, b->memory, sizeof b->memory, b->arrivals, sizeof b->arrivals,
                          b->outgoing, sizeof b->outgoing, b->answers, sizeof b->answers,
                          b->arriving, b->best_effort) == ROUTER_ACCEPTED);
-        book(b, b->state + ROUTER_STATE_TABLE);
+        book(b, b->state + ROUTER_STATE_TABLE, free);
     }
 }
 
@@ -132,6 +132,11 @@ void mesh_carry(struct mesh *mesh)
         }
     }
     mesh->now++;
+}
+
+int mesh_free(const struct board *board)
+{
+    return board->state[ROUTER_STATE_FREE] << 8 | board->state[ROUTER_STATE_FREE + 1];
 }
 
 long mesh_held(const struct board *board)

@@ -1,24 +1,43 @@
 #!/bin/sh
 # run.sh - builds the cabinet over a router archive and runs its scenarios.
-# usage: run.sh [ARCHIVE] [short|long]   (target/staticlib/librouter.a, short); long also writes docs/*.svg.
+# usage: run.sh [ARCHIVE] [short|long|draw]   (without an archive, the router's own, which rt proves and builds; short)
+# long: more ticks, and the pictures of docs/ are compared with what these draw; draw: the same, and writes them there.
 # LIBS: more to link. Ends with a line "cabinet: N passed, M failed"; nonzero exit on any failure.
 set -u
 here=$(cd "$(dirname "$0")" && pwd)
-archive=${1:-$here/../target/staticlib/librouter.a}
-length=${2:-short}
-pictures=
-build=$(mktemp -d)
-trap 'rm -rf "$build"' EXIT
-
-case $length in
-short) ;;
-long) pictures=$here/../docs && mkdir -p "$pictures" ;;
-*) echo "usage: run.sh [ARCHIVE] [short|long]" >&2; exit 2 ;;
-esac
-if ! gcc -std=c99 -Wall -Wextra -Wpedantic -Werror -O2 -I"$here/../include" \
+suite=cabinet
+. "$here/../host/steps.sh"
+archive=
+length=short
+for word; do
+    case $word in
+    short | long | draw) length=$word ;;
+    *) archive=$word ;;
+    esac
+done
+[ $# -le 2 ] || { echo "usage: run.sh [ARCHIVE] [short|long|draw]" >&2; exit 1; }
+archive=$(sh "$here/../host/archive.sh" "$build" "$archive") || exit 1
+gcc -std=c99 -Wall -Wextra -Wpedantic -Werror -O2 -I"$here/../include" \
     "$here/scenarios.c" "$here/mesh.c" "$here/route.c" "$here/plan.c" "$here/traffic.c" "$here/picture.c" \
-    "$archive" ${LIBS:-} -o "$build/cabinet"; then
-    echo "cabinet: 0 passed, 1 failed"
-    exit 1
+    "$archive" ${LIBS:-} -o "$build/cabinet" || exit 1
+
+# picture NAME: docs/ has it as the program draws it.
+picture() {
+    [ $length = long ] || cp "$build/$1" "$here/../docs/$1"
+    cmp "$build/$1" "$here/../docs/$1"
+}
+
+if [ $length = short ]; then
+    "$build/cabinet" short > "$build/cabinet.out" 2>&1
+else
+    "$build/cabinet" long "$build" > "$build/cabinet.out" 2>&1
 fi
-"$build/cabinet" "$length" ${pictures:+"$pictures"}
+status=$?
+cat "$build/cabinet.out"
+sections "$build/cabinet.out"
+step "the scenarios ran to their end" test $status -eq 0
+if [ $length != short ]; then
+    step "docs/latency.svg is what these scenarios draw" picture latency.svg
+    step "docs/fig10.svg is what these scenarios draw" picture fig10.svg
+fi
+ended=yes

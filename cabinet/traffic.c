@@ -353,7 +353,7 @@ static void watch(struct run *run, int board)
 {
     const struct board *b = &run->mesh.board[board];
     const struct account *a = &b->account;
-    int used = ROUTER_SLOTS - (b->state[ROUTER_STATE_FREE] << 8 | b->state[ROUTER_STATE_FREE + 1]);
+    int used = ROUTER_SLOTS - mesh_free(b);
 
     for (int p = 0; p < ROUTER_PORTS; p++) {
         uint8_t code = b->answers[ROUTER_ANSWERS_PORTS + p];
@@ -428,7 +428,7 @@ long run_lost(const struct run *run, int channel)
 
 struct account run_total(const struct run *run)
 {
-    struct account total = {0, 0, 0, 0, 0, 0, 0};
+    struct account total = {0, 0, 0, 0, 0, 0, 0, 0};
 
     for (int b = 0; b < BOARDS; b++) {
         const struct account *a = &run->mesh.board[b].account;
@@ -440,6 +440,7 @@ struct account run_total(const struct run *run)
         total.closed += a->closed;
         total.late += a->late;
         total.full += a->full;
+        total.misjudged += a->misjudged;
     }
     return total;
 }
