@@ -1,8 +1,10 @@
 #!/bin/sh
-# bench.sh - prints one table that sets the router of a given archive beside the plain implementation.
-# usage: bench.sh [ARCHIVE]   (without one, the plain implementation under the router's names); LIBS: more to link
+# bench.sh - prints one table that sets the router of an archive beside the plain implementation.
+# usage: bench.sh [ARCHIVE|plain]   (without an archive, the router's own, which rt proves and builds; plain: the plain
+# implementation under the router's names); LIBS: more to link. Needs valgrind, which counts the instructions.
 set -eu
 here=$(cd "$(dirname "$0")" && pwd)
+command -v valgrind > /dev/null || { echo "bench.sh: there is no valgrind" >&2; exit 1; }
 build=$(mktemp -d)
 trap 'rm -rf "$build"' EXIT
 cflags="-std=c99 -Wall -Wextra -Wpedantic -Werror -I$here/../include -I$here"
@@ -13,13 +15,7 @@ for level in 2 3; do
         -Dplain_fresh=plain_o${level}_fresh -Dplain_control=plain_o${level}_control \
         -Dplain_tick=plain_o${level}_tick -c "$here/plain.c" -o "$build/plain_o$level.o"
 done
-if [ $# -ge 1 ]; then
-    archive=$1
-else
-    archive=$build/librouter.a
-    gcc $cflags -O2 -c "$here/self.c" -o "$build/self.o"
-    ar rcs "$archive" "$build/self.o"
-fi
+archive=$(sh "$here/archive.sh" "$build" "${1:-}")
 gcc $cflags -O2 "$here/bench.c" "$build/plain_o2.o" "$build/plain_o3.o" "$archive" $libs -Wl,-z,now \
     -o "$build/bench"
 

@@ -1,41 +1,31 @@
 #!/bin/sh
-# run.sh - builds and runs the tests and the example against the router of a given archive.
-# usage: run.sh [ARCHIVE [SEED]]   (without an archive, the plain implementation under the router's names)
+# run.sh - builds and runs the tests and the example against the router of an archive.
+# usage: run.sh [ARCHIVE|plain [SEED]]   (without an archive, the router's own, which rt proves and builds; plain: the
+# plain implementation under the router's names)
 # LIBS: more to link. Ends with a line "host: N passed, M failed"; nonzero exit on any failure.
 set -u
 here=$(cd "$(dirname "$0")" && pwd)
+suite=host
+. "$here/steps.sh"
 include=$here/../include
-build=$(mktemp -d)
-trap 'rm -rf "$build"' EXIT
 strict="-Wall -Wextra -Wpedantic -Werror -I$include"
 c99="gcc -std=c99 $strict -O2 -I$here"
 libs=${LIBS:-}
 seed=${2:-}
-passed=0
-failed=0
-
-# step NAME COMMAND..: runs it and counts it.
-step() {
-    name=$1
-    shift
-    if "$@"; then
-        passed=$((passed + 1))
-        echo "ok   $name"
-    else
-        failed=$((failed + 1))
-        echo "FAIL $name"
-    fi
-}
-
-# sections FILE: counts the sections that the test program reports.
-sections() {
-    passed=$((passed + $(grep -c '^ok ' "$1")))
-    failed=$((failed + $(grep -c '^FAIL ' "$1")))
-}
+archive=$(sh "$here/archive.sh" "$build" "${1:-}") || exit 1
 
 header() {
     printf '#include "router.h"\n#include "router.h"\nint main(void) { return ROUTER_ACCEPTED; }\n' > "$build/header.$2"
     "$1" "-std=$3" $strict "$build/header.$2" -o "$build/header"
+}
+
+# The names that the archive offers are the entries of router.h; those that it needs are two of the C library.
+symbols() {
+    nm -g --defined-only "$archive" | awk 'NF == 3 { print $3 }' | sort > "$build/offered"
+    nm -g --undefined-only "$archive" | awk '$1 == "U" { print $2 }' | sort -u > "$build/used"
+    printf '%s\n' router_control router_fresh router_tick | diff - "$build/offered" &&
+        comm -13 "$build/offered" "$build/used" > "$build/needed" &&
+        printf '%s\n' memcpy memset | diff - "$build/needed"
 }
 
 example() {
@@ -47,13 +37,7 @@ step "router.h as C11" header gcc c c11
 step "router.h as C++" header g++ cc c++11
 step "build plain.c" $c99 -c "$here/plain.c" -o "$build/plain.o"
 step "build whole.c" $c99 -c "$here/whole.c" -o "$build/whole.o"
-if [ $# -ge 1 ]; then
-    archive=$1
-else
-    archive=$build/librouter.a
-    step "build self.c" $c99 -c "$here/self.c" -o "$build/self.o"
-    ar rcs "$archive" "$build/self.o"
-fi
+[ "${1:-}" = plain ] || step "the archive has the entries, and needs memcpy and memset alone" symbols
 step "build test" $c99 "$here/test.c" "$build/plain.o" "$build/whole.o" "$archive" $libs -o "$build/test"
 step "build example" $c99 "$here/example.c" "$archive" $libs -o "$build/example"
 step "example" example
@@ -64,5 +48,4 @@ if [ -x "$build/test" ]; then
     sections "$build/test.out"
     step "test ran to its end" test $status -eq 0
 fi
-echo "host: $passed passed, $failed failed"
-test $failed -eq 0
+ended=yes

@@ -149,11 +149,10 @@ static const size_t area_len[AREAS] = {
     ROUTER_STATE_LEN, ROUTER_MEMORY_LEN, ROUTER_ARRIVALS_LEN, ROUTER_OUTGOING_LEN, ROUTER_ANSWERS_LEN,
 };
 
-#define PAGE 4096
-#define ROOM (3 * PAGE)
+#define LEN_MAX (2 * ROUTER_MEMORY_LEN) /* of the areas tried; longer ones are lent to calls that may not touch them */
 
 /* The areas of the plain implementation, as they were before the call, and a sound router to come back to. */
-static uint8_t area[AREAS][ROOM], before[AREAS][ROOM], kept[2][ROOM];
+static uint8_t area[AREAS][LEN_MAX], before[AREAS][LEN_MAX], kept[2][LEN_MAX];
 static uint8_t *const state = area[STATE], *const memory = area[MEMORY], *const answers = area[ANSWERS];
 
 /* The room for an area of the router: two views of the same pages, with an inaccessible page at both ends. */
@@ -162,28 +161,27 @@ struct guarded {
     const uint8_t *lent; /* where the area of the current call starts */
 };
 static struct guarded guarded[AREAS];
+static size_t page, room; /* the machine's page, and as many whole ones as hold LEN_MAX bytes */
 
 static uint8_t *map_view(int file, int access)
 {
-    uint8_t *all = mmap(NULL, ROOM + 2 * PAGE, PROT_NONE, MAP_PRIVATE | MAP_ANONYMOUS, -1, 0);
+    uint8_t *all = mmap(NULL, room + 2 * page, PROT_NONE, MAP_PRIVATE | MAP_ANONYMOUS, -1, 0);
 
-    if (all == MAP_FAILED || mmap(all + PAGE, ROOM, access, MAP_SHARED | MAP_FIXED, file, 0) == MAP_FAILED) {
+    if (all == MAP_FAILED || mmap(all + page, room, access, MAP_SHARED | MAP_FIXED, file, 0) == MAP_FAILED) {
         perror("mmap");
         exit(EXIT_FAILURE);
     }
-    return all + PAGE;
+    return all + page;
 }
 
 static void map_areas(void)
 {
-    if (PAGE % sysconf(_SC_PAGESIZE) != 0) {
-        fprintf(stderr, "test: pages are not of %d bytes\n", PAGE);
-        exit(EXIT_FAILURE);
-    }
+    page = (size_t)sysconf(_SC_PAGESIZE);
+    room = (LEN_MAX + page - 1) / page * page;
     for (unsigned i = 0; i < AREAS; i++) {
         FILE *file = tmpfile();
 
-        if (file == NULL || ftruncate(fileno(file), ROOM) != 0) {
+        if (file == NULL || ftruncate(fileno(file), (off_t)room) != 0) {
             perror("tmpfile");
             exit(EXIT_FAILURE);
         }
@@ -203,7 +201,7 @@ static void on_fault(int signal, siginfo_t *info, void *context)
         const uint8_t *view[2] = {guarded[i].writable, guarded[i].readable};
 
         for (unsigned v = 0; v < 2; v++) {
-            if (at >= view[v] - PAGE && at < view[v] + ROOM + PAGE)
+            if (at >= view[v] - page && at < view[v] + room + page)
                 fail("stray access to %s at %td%s", area_name[i], at - guarded[i].lent,
                      v == 1 ? ", which is only to be read" : "");
         }
@@ -230,7 +228,7 @@ static unsigned areas_lent(enum entry entry)
 /* Places an area of the router and fills it; it gets the read-only view where the entry only reads. */
 static uint8_t *lend(enum entry entry, enum area i, const uint8_t *bytes, size_t len, int at_end)
 {
-    size_t at = at_end ? ROOM - len : 0;
+    size_t at = at_end ? room - len : 0;
     int only_read = i == ARRIVALS || (entry == CONTROL && i == MEMORY);
     uint8_t *lent = (only_read ? guarded[i].readable : guarded[i].writable) + at;
 
