@@ -13,7 +13,7 @@ libs=${LIBS:-}
 for level in 2 3; do
     gcc $cflags -O$level -fstack-usage -ffunction-sections \
         -Dplain_fresh=plain_o${level}_fresh -Dplain_control=plain_o${level}_control \
-        -Dplain_tick=plain_o${level}_tick -c "$here/plain.c" -o "$build/plain_o$level.o"
+        -Dplain_tick=plain_o${level}_tick -Dplain_display=plain_o${level}_display -c "$here/plain.c" -o "$build/plain_o$level.o"
 done
 archive=$(sh "$here/archive.sh" "$build" "${1:-}")
 gcc $cflags -O2 "$here/bench.c" "$build/plain_o2.o" "$build/plain_o3.o" "$archive" $libs -Wl,-z,now \

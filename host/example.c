@@ -49,13 +49,14 @@ static void tick(uint8_t arrivals_mask, uint8_t best_effort_mask)
     printf("tick %3u:", clock);
     for (unsigned p = 0; p < ROUTER_PORTS; p++) {
         const uint8_t *packet = outgoing + ROUTER_PACKET_LEN * p;
+        const uint8_t *data = outgoing + router_display(outgoing, sizeof outgoing, (uint8_t)p);
         uint8_t code = answers[ROUTER_ANSWERS_PORTS + p];
 
         if (code == ROUTER_PORT_BEST_EFFORT)
             printf(" [%u best-effort]", p);
         else if (code != ROUTER_PORT_IDLE)
             printf(" [%u %s: connection %u, time %u, \"%.18s\"]", p, code == ROUTER_PORT_EARLY ? "early" : "on time",
-                   packet[ROUTER_PACKET_ID], packet[ROUTER_PACKET_TIME], (const char *)packet + ROUTER_PACKET_DATA);
+                   packet[ROUTER_PACKET_ID], packet[ROUTER_PACKET_TIME], (const char *)data);
     }
     printf("\n");
 }

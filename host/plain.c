@@ -324,3 +324,11 @@ uint8_t plain_tick(uint8_t *state, size_t state_len,
     state[ROUTER_STATE_CLOCK]++;
     return ROUTER_ACCEPTED;
 }
+
+size_t plain_display(const uint8_t *outgoing, size_t outgoing_len, uint8_t port)
+{
+    (void)outgoing;
+    if (outgoing_len != ROUTER_OUTGOING_LEN || port >= ROUTER_PORTS)
+        return outgoing_len;
+    return ROUTER_PACKET_LEN * port + ROUTER_PACKET_DATA;
+}

@@ -19,4 +19,6 @@ uint8_t plain_tick(uint8_t *state, size_t state_len,
                    uint8_t *answers, size_t answers_len,
                    uint8_t arrivals_mask, uint8_t best_effort_mask);
 
+size_t plain_display(const uint8_t *outgoing, size_t outgoing_len, uint8_t port);
+
 #endif

@@ -23,7 +23,7 @@ header() {
 symbols() {
     nm -g --defined-only "$archive" | awk 'NF == 3 { print $3 }' | sort > "$build/offered"
     nm -g --undefined-only "$archive" | awk '$1 == "U" { print $2 }' | sort -u > "$build/used"
-    printf '%s\n' router_control router_fresh router_tick | diff - "$build/offered" &&
+    printf '%s\n' router_control router_display router_fresh router_tick | diff - "$build/offered" &&
         comm -13 "$build/offered" "$build/used" > "$build/needed" &&
         printf '%s\n' memcpy memset | diff - "$build/needed"
 }

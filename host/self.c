@@ -2,4 +2,5 @@
 #define plain_fresh router_fresh
 #define plain_control router_control
 #define plain_tick router_tick
+#define plain_display router_display
 #include "plain.c"

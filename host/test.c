@@ -113,6 +113,7 @@ enum event {
     PORT_0, PORT_1, PORT_2, PORT_3,
     WITHDRAWN, WITHDRAWN_255, MULTICAST_STORED, MULTICAST_AT_ONCE, MULTICAST_IN_PART, SEVERAL_EMPTIED,
     STORED_256, FULL_AND_FREED, CLOCK_TURN, EQUAL_KEYS, HELD_BACK,
+    DISPLAY_PART, DISPLAY_NONE,
     WHOLE_TICK, WHOLE_REFUSED, WHOLE_TURN, WHOLE_BELOW_ZERO, FATE_ON_TIME, FATE_EARLY, FATE_WITHDRAWN,
     EVENTS
 };
@@ -128,6 +129,7 @@ static const char *const event_name[EVENTS] = {
     "several slots emptied in one tick",
     "256 stored", "arrival gets 8 in a tick that frees a slot", "clock turn", "equal keys (in the ticks sampled)",
     "best-effort before an early packet (sampled)",
+    "display: a part", "display: none",
     "whole: tick accepted", "whole: call refused", "whole: clock turn", "whole: time below zero",
     "fate: sent on time", "fate: sent early", "fate: withdrawn in its deadline tick",
 };
@@ -724,6 +726,58 @@ static void test_lengths(void)
 
         expect("all lengths zero", call_both(&c), ROUTER_BAD_LENGTH);
     }
+}
+
+/* The display part in an area of any length, which is lent read-only at either end of its pages. */
+static void display_both(const uint8_t *outgoing, size_t len, unsigned port)
+{
+    size_t should = plain_display(outgoing, len, (uint8_t)port);
+    int whole = len == ROUTER_OUTGOING_LEN && port < ROUTER_PORTS;
+
+    if (should != (whole ? ROUTER_PACKET_LEN * port + ROUTER_PACKET_DATA : len))
+        fail("plain display of port %u in %zu bytes starts at %zu", port, len, should);
+    occurred[whole ? DISPLAY_PART : DISPLAY_NONE]++;
+    for (int at_end = 0; at_end < 2; at_end++) {
+        const uint8_t *lent = lend(TICK, ARRIVALS, outgoing, len, at_end);
+        size_t start;
+
+        calls++;
+        start = router_display(lent, len, (uint8_t)port);
+        if (start != should)
+            fail("display of port %u in %zu bytes starts at %zu and should at %zu", port, len, start, should);
+        if (whole && memcmp(lent + start, outgoing + should, ROUTER_DATA_LEN) != 0)
+            fail("display of port %u has other bytes", port);
+    }
+}
+
+/* A length that is right in its low bits, for display. */
+static void display_long(size_t more)
+{
+    size_t len = ROUTER_OUTGOING_LEN + more;
+    uint8_t *map = mmap(NULL, len, PROT_READ, MAP_PRIVATE | MAP_ANONYMOUS | MAP_NORESERVE, -1, 0);
+
+    if (map == MAP_FAILED)
+        fail("no area of %zu bytes", len);
+    for (unsigned port = 0; port < 256; port++) {
+        calls++;
+        if (router_display(map, len, (uint8_t)port) != len)
+            fail("display of port %u in %zu bytes is not empty", port, len);
+    }
+    munmap(map, len);
+}
+
+static void test_display(void)
+{
+    random_bytes(area[OUTGOING], LEN_MAX);
+    for (size_t len = 0; len <= 4 * ROUTER_OUTGOING_LEN; len++) {
+        for (unsigned port = 0; port < 256; port++)
+            display_both(area[OUTGOING], len, port);
+    }
+    display_both(area[OUTGOING], LEN_MAX, 0);
+    display_long((size_t)1 << 8);
+    display_long((size_t)1 << 16);
+    if (SIZE_MAX > UINT32_MAX)
+        display_long((size_t)UINT32_MAX + 1);
 }
 
 static void test_masks(void)
@@ -1465,6 +1519,7 @@ int main(int argc, char **argv)
 
     section("a fresh router, every clock", test_fresh);
     section("wrong and zero lengths", test_lengths);
+    section("the display part, every port", test_display);
     section("masks of every value", test_masks);
     section("registers and values of every value", test_registers);
     section("soundness: each rule broken alone", test_soundness);

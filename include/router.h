@@ -1,11 +1,20 @@
 /*
- * router.h - the packet router of the control boards: three entries over byte areas that the caller lends.
+ * router.h - the packet router of the control boards: entries over byte areas that the caller lends.
  *
  * The router forwards packets of 20 bytes from five inputs to five outputs by deadline. It has an 8-bit clock,
  * 256 connections and a packet memory of 256 slots. All it knows lies in two areas of the caller, the state and
  * the packet memory; it keeps no variable and no pointer of its own, allocates nothing and calls nobody back.
  * A board makes the two areas fresh once, opens connections with control writes, and then calls a tick once per
- * packet time.
+ * packet time; display software finds the data of a port with router_display.
+ *
+ *
+ * LINKING
+ *
+ * `rt staticlib router` proves the library and writes target/staticlib/librouter.a: code for Linux on any x86-64
+ * processor, by the System V calling convention. It needs memcpy and memset, and nothing else: no start-up code, no
+ * heap, no other function. docs/BENCH.md has the stack of each call.
+ * The kit compiles for no other target. For another processor there is host/plain.c, the same entries in C99 (under
+ * these names by host/self.c): it is tested against this archive byte for byte, and not proved.
  *
  *
  * AREAS
@@ -20,10 +29,10 @@
  *
  * ANSWERS AND REFUSALS
  *
- * Each entry returns one number: ROUTER_ACCEPTED (0), or the number of the first question, in the order of the
- * list "Numbers" below, that the call does not pass. A refused call changes nothing: each byte of each area is
- * as it was, outgoing packets and answers included. The number and every byte of every area after a call depend
- * on nothing but the numbers and the bytes handed over.
+ * Each call but router_display returns one number: ROUTER_ACCEPTED (0), or the number of the first question, in the
+ * order of the list "Numbers" below, that the call does not pass. A refused call changes nothing: each byte of each
+ * area is as it was, outgoing packets and answers included. The number and every byte of every area after a call
+ * depend on nothing but the numbers and the bytes handed over.
  *
  *
  * TIMES
@@ -41,6 +50,16 @@
 #ifdef __cplusplus
 extern "C" {
 #endif
+
+/*
+ * The version of the header and of the library it describes, to be compared by #if. The first number changes with what
+ * a call does, returns or needs, or with the layout of an area, so that a caller has to look; the second with what is
+ * only added; the third with anything else.
+ */
+#define ROUTER_VERSION_MAJOR 1
+#define ROUTER_VERSION_MINOR 0
+#define ROUTER_VERSION_PATCH 0
+#define ROUTER_VERSION (ROUTER_VERSION_MAJOR * 10000 + ROUTER_VERSION_MINOR * 100 + ROUTER_VERSION_PATCH)
 
 /* Counts. */
 #define ROUTER_PORTS 5
@@ -164,8 +183,8 @@ uint8_t router_fresh(uint8_t *state, size_t state_len,
  *   ROUTER_REG_HORIZON                         each port in the stored ports mask gets `value` as its horizon.
  * A commit leaves the stored bytes as they are. Packets already in memory do not change when their entry does.
  *
- * The router limits d and horizons each alone. Whoever chooses them keeps their sum below 128 on each port: a packet sent
- * far ahead of its time must still be less than half a turn of the clock early at the next board.
+ * The router limits d and horizons each alone. Whoever chooses them keeps their sum below 128 on each port: a packet
+ * sent far ahead of its time must still be less than half a turn of the clock early at the next board.
  *
  * Returns ROUTER_ACCEPTED, ROUTER_BAD_LENGTH, ROUTER_BAD_STATE, ROUTER_BAD_REGISTER or ROUTER_BAD_VALUE.
  */
@@ -205,6 +224,18 @@ uint8_t router_tick(uint8_t *state, size_t state_len,
                     uint8_t *outgoing, size_t outgoing_len,
                     uint8_t *answers, size_t answers_len,
                     uint8_t arrivals_mask, uint8_t best_effort_mask);
+
+/*
+ * router_display says where the data of a port starts in an outgoing area: ROUTER_DATA_LEN bytes from there are the
+ * port's. There is no such part exactly if outgoing_len is not ROUTER_OUTGOING_LEN or the port is above 4, and then it
+ * returns outgoing_len. It puts none of the questions and changes nothing.
+ *
+ *     size_t start = router_display(outgoing, sizeof outgoing, port);
+ *
+ *     if (start < sizeof outgoing)
+ *         show(outgoing + start, ROUTER_DATA_LEN);
+ */
+size_t router_display(const uint8_t *outgoing, size_t outgoing_len, uint8_t port);
 
 #ifdef __cplusplus
 }
