@@ -601,8 +601,8 @@ static long meet_order(uint8_t code)
 }
 
 /*
- * On a fresh board port 0 gets slot 0, port 1 slot 1, and so on. They are given back one by one, slot 4 last, so that in
- * a second round port 0 gets slot 4, and port 4 slot 0.
+ * On a fresh board port 0 gets slot 0, port 1 slot 1, and so on. They are given back one by one, slot 4 last, so that
+ * in a second round port 0 gets slot 4, and port 4 slot 0.
  */
 static void equal_keys(void)
 {
