@@ -65,7 +65,8 @@ full_disk() { # TAPE
 # Standard output into a pipe whose reader has gone, by word of the fifo, with an action on SIGPIPE: the signal ends the
 # program, or the write fails.
 closed_pipe() { # ACTION
-    rm -f "$build/gone" && mkfifo "$build/gone" || return 1
+    rm -f "$build/gone" "$build/status"
+    mkfifo "$build/gone" || return 1
     {
         read -r _ < "$build/gone"
         trap "$1" PIPE
@@ -75,7 +76,7 @@ closed_pipe() { # ACTION
         exec <&-
         echo > "$build/gone"
     }
-    status=$(cat "$build/status")
+    status=$(cat "$build/status") || return 1
     test "$status" -eq $((128 + 13)) || says_so "$status"
 }
 
