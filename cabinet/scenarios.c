@@ -587,7 +587,7 @@ static void meet(uint8_t delay_before)
     meet_inject(MEET_BOARD, LOCAL, now + delay_before);
 }
 
-/* The ports by which the packets came that the board sends with this code, the first of them first. */
+/* The ports, counted from 1, by which the packets came that the board sends with this code, the first sent first. */
 static long meet_order(uint8_t code)
 {
     long order = 0;
@@ -595,7 +595,7 @@ static long meet_order(uint8_t code)
     for (int i = 0; i < 2 * MEET_DELAY; i++) {
         meet_tick();
         if (meet_board->answers[ROUTER_ANSWERS_PORTS + LOCAL] == code)
-            order = 10 * order + meet_board->outgoing[ROUTER_PACKET_LEN * LOCAL + ROUTER_PACKET_DATA];
+            order = 10 * order + meet_board->outgoing[ROUTER_PACKET_LEN * LOCAL + ROUTER_PACKET_DATA] + 1;
     }
     return order;
 }
@@ -619,8 +619,8 @@ static void equal_keys(void)
         first = meet_order(kinds[i].code);
         meet(MEET_DELAY);
         second = meet_order(kinds[i].code);
-        claim(kinds[i].name, "of five with equal keys the lower slot is sent first", first == 1234);
-        claim(kinds[i].name, "so it is where the slots were taken in falling order", second == 43210);
+        claim(kinds[i].name, "of five with equal keys the lower slot is sent first", first == 12345);
+        claim(kinds[i].name, "so it is where the slots were taken in falling order", second == 54321);
     }
 }
 
