@@ -10,7 +10,7 @@ use lib.Seq.{drop-cons}
 use lib.Dec.{leb, eqb}
 use borrow.Author.Tests.{eq-eqb, ne-eqb}
 use Rattle.rules.specs.Areas.{byte, has}
-use Rattle.tapes.specs.Records.{blank, unusedRefusal, arrivalRefusal, recordRefusal}
+use Rattle.tapes.specs.Records.{blank, unusedRefusal, arrivalRefusal, kindRefusal, recordRefusal}
 
 module _ (r : List ℕ) (i : ℕ) where
   pub blank-end : length r ≤ i → blank (drop i r) ≡ true
@@ -42,9 +42,9 @@ module _ (waiting : ℕ) (r : List ℕ) (whole : length r ≡ 24) where
   unfolding arrivalRefusal
   asked n ec ed ep ew e = rw (blank-two r whole, ← ec, ← ed, ← ep, ← ew) e
 
--- A record's number, by its kind.
+-- A record's number, by its length and kind; what isn't asked yet stays as it is.
 module _ (waiting : ℕ) (r : List ℕ) where
-  pub known : (n : ℕ) {a b c : Bool} → a ≡ eqb (byte r 0) 67 → b ≡ eqb (byte r 0) 65 → c ≡ eqb (byte r 0) 84
-      → n ≡ cond a (unusedRefusal r 3) (cond b (arrivalRefusal waiting r) (cond c (unusedRefusal r 2) 10)) → n ≡ recordRefusal waiting r
-  unfolding recordRefusal
-  known n ea eb ec e = rw (← ea, ← eb, ← ec) e
+  pub known : (n : ℕ) {w a b c : Bool} → w ≡ eqb (length r) 24 → a ≡ eqb (byte r 0) 67 → b ≡ eqb (byte r 0) 65 → c ≡ eqb (byte r 0) 84
+      → n ≡ cond w (cond a (unusedRefusal r 3) (cond b (arrivalRefusal waiting r) (cond c (unusedRefusal r 2) 10))) 9 → n ≡ recordRefusal waiting r
+  unfolding recordRefusal kindRefusal
+  known n ew ea eb ec e = rw (← ew, ← ea, ← eb, ← ec) e

@@ -8,7 +8,7 @@ use native.Mathlib.Numerals.{add-one}
 use native.Mathlib.Omega.{arith}
 use lib.ListN.{length, replicate, take, drop}
 use lib.Dec.{leb, eqb}
-use borrow.Author.Tests.{eq-eqb, ne-eqb, eqb-false, leb-true}
+use borrow.Author.Tests.{eq-eqb, ne-eqb, eqb-true, eqb-false, leb-true}
 use Rattle.rules.specs.Areas.{quiet, byte, has, areasFull}
 use Rattle.rules.specs.Board8.{board8}
 use Rattle.rules.specs.Board.{clock}
@@ -16,7 +16,7 @@ use Rattle.rules.specs.Tick.{Outcome}
 use Rattle.rules.specs.Tick as Tick
 use Rattle.rules.specs.Questions.{controlWrite, tick, tickRefusal}
 use Rattle.tapes.proofs.Stores.{take-part}
-use Rattle.tapes.specs.Records.{blank, arrivalRefusal, recordRefusal}
+use Rattle.tapes.specs.Records.{blank, arrivalRefusal, kindRefusal, recordRefusal}
 use Rattle.tapes.specs.Tape.{Tape, nothing, refused, ticked, Taken, takeControl, takeArrival, afterTick, takeTick, takeRecord, eventLines, Printed, step, after}
 
 -- A mask without port p has room for its bit.
@@ -43,17 +43,26 @@ module _ (σ : Tape) (r s : List ℕ) (n : ℕ) (e : _≡_ {A = Outcome} (record
   unfolding takeControl
   control-accepted h = rw (← e, eq-eqb n 0 h)
 
--- ---- an arrival: the questions let it through
+-- ---- a record that the questions let through
 
-pub arrival-free : (waiting : ℕ) (r : List ℕ) → recordRefusal waiting r ≡ 0 → byte r 0 ≡ 65 → (byte r 1 ≤ 4) × (has waiting (byte r 1) ≡ false)
-unfolding recordRefusal arrivalRefusal
-arrival-free waiting r q e = go (blank (take 2 (drop 2 r))) (leb (byte r 1) 4) refl (has waiting (byte r 1)) refl (rw e at q)
-  where
-    go : (a b : Bool) → leb (byte r 1) 4 ≡ b → (w : Bool) → has waiting (byte r 1) ≡ w → _≡_ {A = ℕ} (cond (a && b) (cond w 12 0) 11) 0 → (byte r 1 ≤ 4) × (has waiting (byte r 1) ≡ false)
-    go true true eb false ew z = (leb-true (byte r 1) 4 eb, ew)
-    go true true eb true ew z = absurd (omega arith)
-    go true false eb w ew z = absurd (omega arith)
-    go false b eb w ew z = absurd (omega arith)
+module _ (waiting : ℕ) (r : List ℕ) (q : recordRefusal waiting r ≡ 0) where
+  pub let-through-whole : length r ≡ 24
+  unfolding recordRefusal
+  let-through-whole = go (eqb (length r) 24) refl q
+    where
+      go : (b : Bool) → eqb (length r) 24 ≡ b → _≡_ {A = ℕ} (cond b (kindRefusal waiting r) 9) 0 → length r ≡ 24
+      go true e z = eqb-true (length r) 24 e
+      go false e z = absurd (omega arith)
+
+  pub arrival-free : byte r 0 ≡ 65 → (byte r 1 ≤ 4) × (has waiting (byte r 1) ≡ false)
+  unfolding recordRefusal kindRefusal arrivalRefusal
+  arrival-free e = go (blank (take 2 (drop 2 r))) (leb (byte r 1) 4) refl (has waiting (byte r 1)) refl (rw (eq-eqb (length r) 24 let-through-whole, e) at q)
+    where
+      go : (a b : Bool) → leb (byte r 1) 4 ≡ b → (w : Bool) → has waiting (byte r 1) ≡ w → _≡_ {A = ℕ} (cond (a && b) (cond w 12 0) 11) 0 → (byte r 1 ≤ 4) × (has waiting (byte r 1) ≡ false)
+      go true true eb false ew z = (leb-true (byte r 1) 4 eb, ew)
+      go true true eb true ew z = absurd (omega arith)
+      go true false eb w ew z = absurd (omega arith)
+      go false b eb w ew z = absurd (omega arith)
 
 -- ---- a tick
 
@@ -101,7 +110,7 @@ module _ (σ : Tape) (r out ans : List ℕ) (lo : length out ≡ 100) (la : leng
         → _≡_ {A = Taken} (record { tape = record { store = o .store; waiting = 0; records = σ .records; arrivals = σ .arrivals }; event = ticked t (o .reply .outgoing) (o .reply .answers) }) (takeTick σ r)
     tick-accepted h t et = rw (← same-tick, ← e, eq-eqb (o .reply .number) 0 h, et)
 
--- ---- a whole record
+-- ---- a record
 
 module _ (σ : Tape) (k : ℕ) (r : List ℕ) (n : ℕ) (e : n ≡ recordRefusal (σ .waiting) r) where
   pub record-refused : n ≢ 0 → _≡_ {A = Taken} (record { tape = σ; event = refused n }) (takeRecord σ k r)

@@ -56,14 +56,6 @@ put-start {text} {before} p h l = rw (p .stored, p .ends) (take-sets before 0 te
 pub put-within : {text before after : List ℕ} {n r : ℕ} → Put text 0 before after r → length text ≤ n → r ≤ n
 put-within p h = omega (arith, p .ends)
 
--- A whole record of a block.
-module _ (b : List ℕ) (i : ℕ) (h : i < length b / 24) where
-  pub record-part : take (24 * i + 24 - 24 * i) (drop (24 * i) b) ≡ take 24 (drop (24 * i) b)
-  record-part = let e : 24 * i + 24 - 24 * i ≡ 24 = omega arith in rw e
-
-  pub record-length : length (take (24 * i + 24 - 24 * i) (drop (24 * i) b)) ≡ 24
-  record-length = rw (record-part, length-take-le 24 (drop (24 * i) b) (rw (length-drop (24 * i) b) (omega arith)))
-
 -- The first n of a part that was lent from `at` on, after all that stands before it.
 pub take-part : (at n : ℕ) (l p q : List ℕ) → at ≤ length l → n ≤ length p → take (at + n) (take at l ++ (p ++ q)) ≡ take at l ++ take n p
 take-part at n l p q h k =

@@ -2,4 +2,5 @@ pub mod Lines
 pub mod Records
 pub mod Put
 pub mod Tape
+pub mod Blocks
 pub mod Values

@@ -1,12 +1,12 @@
--- A tape record's questions 10 to 12 (document 01, "Per tape record"). Assumes nothing.
+-- A tape record's questions 9 to 12 (document 01, "Per tape record"). Assumes nothing.
 use Prim.Native.Nat.{ℕ}
 use mathlib.Core.Bool.{Bool, true, cond, _&&_}
 use mathlib.Core.List.{List, [], _∷_}
-use lib.ListN.{take, drop}
+use lib.ListN.{length, take, drop}
 use lib.Dec.{leb, eqb}
 use Rattle.rules.specs.Areas.{byte, has}
 use Rattle.tapes.specs.declared.reading.Answer.{Answer}
-use Rattle.tapes.specs.declared.reading.Answer.the-variants.{Accepted, UnknownKind, Unused, Occupied}
+use Rattle.tapes.specs.declared.reading.Answer.the-variants.{Accepted, Short, UnknownKind, Unused, Occupied}
 
 -- Every byte is zero.
 unfoldable pub blank : List ℕ → Bool
@@ -22,15 +22,20 @@ unfoldable pub arrivalRefusal : ℕ → List ℕ → ℕ
 arrivalRefusal waiting r = cond (blank (take 2 (drop 2 r)) && leb (byte r 1) 4) (cond (has waiting (byte r 1)) 12 0) 11
 
 -- Is the kind known? 43h is a control write, 41h an arrival, 54h a tick.
-unfoldable pub recordRefusal : ℕ → List ℕ → ℕ
-recordRefusal waiting r =
+unfoldable pub kindRefusal : ℕ → List ℕ → ℕ
+kindRefusal waiting r =
     cond (eqb (byte r 0) 67) (unusedRefusal r 3)
     (cond (eqb (byte r 0) 65) (arrivalRefusal waiting r)
     (cond (eqb (byte r 0) 84) (unusedRefusal r 2) 10))
 
+-- Are there 24 bytes?
+unfoldable pub recordRefusal : ℕ → List ℕ → ℕ
+recordRefusal waiting r = cond (eqb (length r) 24) (kindRefusal waiting r) 9
+
 -- The number of each answer.
 abbrev pub numberOf : Answer → ℕ
 numberOf Accepted = 0
+numberOf Short = 9
 numberOf UnknownKind = 10
 numberOf Unused = 11
 numberOf Occupied = 12

@@ -1,5 +1,5 @@
 -- What `tape` prints, over its input bytes: records of 24, the router's calls, the lines of each (document 01, "Tape program"). Assumes nothing.
-use Prim.Native.Nat.{ℕ, zero, suc, _+_, _*_, _/_, _%_, _^_}
+use Prim.Native.Nat.{ℕ, zero, suc, _+_, _*_, _/_, _^_}
 use mathlib.Core.Bool.{cond}
 use mathlib.Core.List.{List, [], _++_}
 use lib.ListN.{length, take, drop, set, replicate, getD}
@@ -58,7 +58,7 @@ afterTick σ o =
 unfoldable pub takeTick : Tape → List ℕ → Taken
 takeTick σ r = afterTick σ (tick board8 (σ .store) (σ .waiting) (byte r 1) (σ .arrivals) (replicate 100 0) (replicate 20 0))
 
--- One whole record, the k-th: its questions, then what its kind does.
+-- One record, the k-th: its questions, then what its kind does.
 unfoldable pub takeRecord : Tape → ℕ → List ℕ → Taken
 takeRecord σ k r =
     let q = recordRefusal (σ .waiting) r in
@@ -95,8 +95,10 @@ after σ k input (suc i) =
     let p = step (o .tape) (k + suc i) (take 24 (drop (24 * i) input)) in
     record { tape = p .tape; lines = o .lines ++ p .lines }
 
--- All that is printed: the whole records, and 9 for a rest of fewer than 24 bytes.
+-- How many records an input has: a rest of fewer than 24 bytes is the last.
+abbrev pub recordsIn : List ℕ → ℕ
+recordsIn input = (length input + 23) / 24
+
+-- All that is printed of a tape.
 unfoldable pub printed : List ℕ → List ℕ
-printed input =
-    let n = length input / 24 in
-    after start 0 input n .lines ++ cond (eqb (length input % 24) 0) [] (refusedLine (suc n) 9)
+printed input = after start 0 input (recordsIn input) .lines

@@ -5,7 +5,9 @@ use Rattle.tapes.specs.declared.stepping.Event as Code
 use Rattle.tapes.specs.declared.stepping.Event.the-variants.{Nothing, Refused, Ticked}
 use Rattle.tapes.specs.declared.stepping.Waiting.{Waiting}
 use Rattle.tapes.specs.declared.stepping.Taken as TakenCode
+use Rattle.tapes.specs.declared.stepping.Place as PlaceCode
 use Rattle.tapes.specs.Tape.{Tape, Event, nothing, refused, ticked, Taken}
+use Rattle.tapes.specs.Blocks.{Place}
 
 -- A tape whose router and arrivals are in the lent areas.
 abbrev pub tapeOf : List ℕ → List ℕ → List ℕ → Waiting → Tape
@@ -19,3 +21,6 @@ eventOf (Ticked t) out ans = ticked t out ans
 
 abbrev pub takenOf : List ℕ → List ℕ → List ℕ → List ℕ → List ℕ → TakenCode.Taken → Taken
 takenOf state memory arrivals out ans t = record { tape = tapeOf state memory arrivals (t .waiting); event = eventOf (t .event) out ans }
+
+abbrev pub placeOf : List ℕ → List ℕ → List ℕ → PlaceCode.Place → Place
+placeOf state memory arrivals p = record { tape = tapeOf state memory arrivals (p .waiting); number = p .number }

@@ -1,7 +1,10 @@
-// A whole record's questions.
+// A record's questions.
 ghost use mathlib.Core.Path.{_≡_};
 ghost use lib.ListN.{length, drop};
 ghost use Rattle.tapes.specs.Records.{blank, unusedRefusal, arrivalRefusal, recordRefusal, numberOf};
+
+// The bytes of a record.
+pub const RECORD: usize = 24;
 
 // The kinds of a record.
 pub const CONTROL: u8 = 0x43;
@@ -13,6 +16,7 @@ pub const TICK: u8 = 0x54;
 // What the questions of a record answer.
 pub enum Answer {
     Accepted,
+    Short,
     UnknownKind,
     Unused,
     Occupied,
@@ -24,6 +28,7 @@ impl Answer {
     {
         match self {
             Answer::Accepted => 0,
+            Answer::Short => 9,
             Answer::UnknownKind => 10,
             Answer::Unused => 11,
             Answer::Occupied => 12,
@@ -75,11 +80,13 @@ fn arrival_questions(waiting: u8, bytes: &[u8]) -> Answer
     Answer::Accepted
 }
 
-// Questions 10 to 12 of a whole record, when the ports of a mask have a packet already.
+// Questions 9 to 12 of a record, when the ports of a mask have a packet already.
 pub fn questions(waiting: u8, bytes: &[u8]) -> Answer
-    requires { ⌜ length (now bytes) ≡ 24 ⌝ }
     ensures { λ r. ⌜ numberOf r ≡ recordRefusal waiting (now (bytes .entry)) ⌝ }
 {
+    if bytes.len() != RECORD {
+        return Answer::Short;
+    }
     let kind = bytes[0];
     if kind == CONTROL {
         return unused_questions(bytes, 3);

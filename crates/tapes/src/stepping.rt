@@ -3,11 +3,12 @@ ghost use mathlib.Core.Path.{_≡_};
 ghost use mathlib.Core.List.{List};
 ghost use mathlib.Core.Bool.{false};
 ghost use Rattle.tapes.specs.declared.stepping.Waiting.{Waiting};
-ghost use Prim.Native.Nat.{ℕ, _+_, _*_, _^_, _/_, _≤_, _<_};
-ghost use lib.ListN.{length, take};
+ghost use Prim.Native.Nat.{ℕ, _+_, _*_, _^_, _-_, _≤_, _<_};
+ghost use lib.ListN.{length, take, drop};
 ghost use Rattle.rules.specs.Areas.{has, byte};
 ghost use Rattle.tapes.specs.Tape as Tapes;
-ghost use Rattle.tapes.specs.Values.{tapeOf, eventOf, takenOf};
+ghost use Rattle.tapes.specs.Blocks as Blocks;
+ghost use Rattle.tapes.specs.Values.{tapeOf, eventOf, takenOf, placeOf};
 use crate::printing;
 use crate::reading;
 use area::Field;
@@ -104,7 +105,7 @@ fn take_tick(
     }
 }
 
-// One whole record: its questions, then what its kind does. A tick's outgoing and answer bytes are left in the lent areas.
+// One record: its questions, then what its kind does. A tick's outgoing and answer bytes are left in the lent areas.
 pub fn take_record(
     state: &mut [u8],
     memory: &mut [u8],
@@ -115,7 +116,7 @@ pub fn take_record(
     outgoing: &mut [u8],
     answers: &mut [u8],
 ) -> Taken
-    requires { ⌜ (length (now arrivals) ≡ 100) × (length (now bytes) ≡ 24) × (length (now outgoing) ≡ 100) × (length (now answers) ≡ 20) ⌝ }
+    requires { ⌜ (length (now arrivals) ≡ 100) × (length (now outgoing) ≡ 100) × (length (now answers) ≡ 20) ⌝ }
     ensures { λ r. ⌜ takenOf (now (state .exit)) (now (memory .exit)) (now (arrivals .exit)) (now (outgoing .exit)) (now (answers .exit)) r
         ≡ Tapes.takeRecord (tapeOf (now (state .entry)) (now (memory .entry)) (now (arrivals .entry)) waiting) number (now (bytes .entry)) ⌝ }
 {
@@ -147,7 +148,7 @@ pub struct Stepped {
     pub length: usize,
 }
 
-// One whole record and its lines.
+// One record and its lines.
 pub fn step(
     state: &mut [u8],
     memory: &mut [u8],
@@ -157,7 +158,7 @@ pub fn step(
     bytes: &[u8],
     lines: &mut [u8],
 ) -> Stepped
-    requires { ⌜ (length (now arrivals) ≡ 100) × (length (now bytes) ≡ 24) × (161 ≤ length (now lines)) ⌝ }
+    requires { ⌜ (length (now arrivals) ≡ 100) × (161 ≤ length (now lines)) ⌝ }
     ensures { λ r. ⌜ _≡_ {A = Tapes.Printed}
         (record { tape = tapeOf (now (state .exit)) (now (memory .exit)) (now (arrivals .exit)) (r .waiting); lines = take (r .length) (now (lines .exit)) })
         (Tapes.step (tapeOf (now (state .entry)) (now (memory .entry)) (now (arrivals .entry)) waiting) number (now (bytes .entry))) ⌝ }
@@ -182,29 +183,67 @@ pub fn step(
     Stepped { waiting, length }
 }
 
-// The whole records of a block, after `number` records before it, and their lines.
+// Between blocks: the arrivals that wait, and how many records were read.
+pub struct Place {
+    pub waiting: Waiting,
+    pub number: u64,
+}
+
+// A tape's beginning: a fresh router at clock 0, and no arrival that waits.
+pub fn begin(state: &mut [u8], memory: &mut [u8], arrivals: &mut [u8]) -> Place
+    requires { ⌜ (length (now state) ≡ 1804) × (length (now memory) ≡ 5120) × (length (now arrivals) ≡ 100) ⌝ }
+    ensures { λ r. ⌜ placeOf (now (state .exit)) (now (memory .exit)) (now (arrivals .exit)) r ≡ Blocks.begin ⌝ }
+{
+    let none = [0u8; Router::ARRIVALS];
+    router::router_fresh(state, memory, 0);
+    area::copy_in(&none, arrivals, 0);
+    let waiting = Waiting {
+        mask: 0,
+        records: [0; 5],
+    };
+    Place { waiting, number: 0 }
+}
+
+// Where the record ends that starts at a place of a block.
+fn record_end(block: &[u8], start: usize) -> usize
+    requires { ⌜ start ≤ length (now block) ⌝ }
+    ensures { λ r. ⌜ (start ≤ r) × (r ≤ length (now (block .entry))) × (take (r - start) (drop start (now (block .entry))) ≡ take 24 (drop start (now (block .entry)))) ⌝ }
+{
+    if reading::RECORD <= block.len() - start {
+        return start + reading::RECORD;
+    }
+    block.len()
+}
+
+// The place after a block, and how many bytes of lines it caused.
+pub struct Turned {
+    pub place: Place,
+    pub length: usize,
+}
+
+// The records of a block, a rest of fewer than 24 bytes among them, and their lines.
 pub fn run(
     state: &mut [u8],
     memory: &mut [u8],
     arrivals: &mut [u8],
-    waiting: Waiting,
-    number: u64,
+    place: Place,
     block: &[u8],
     lines: &mut [u8],
-) -> Stepped
-    requires { ⌜ (length (now arrivals) ≡ 100) × (7 * length (now block) ≤ length (now lines)) × (number + length (now block) < 2 ^ 60) ⌝ }
-    ensures { λ r. ⌜ _≡_ {A = Tapes.Printed}
-        (record { tape = tapeOf (now (state .exit)) (now (memory .exit)) (now (arrivals .exit)) (r .waiting); lines = take (r .length) (now (lines .exit)) })
-        (Tapes.after (tapeOf (now (state .entry)) (now (memory .entry)) (now (arrivals .entry)) waiting) number (now (block .entry)) (length (now (block .entry)) / 24)) ⌝ }
+) -> Turned
+    requires { ⌜ (length (now arrivals) ≡ 100) × (161 * Tapes.recordsIn (now block) ≤ length (now lines)) × (place .number + length (now block) < 2 ^ 60) ⌝ }
+    ensures { λ r. ⌜ _≡_ {A = Blocks.Turned}
+        (record { place = placeOf (now (state .exit)) (now (memory .exit)) (now (arrivals .exit)) (r .place); lines = take (r .length) (now (lines .exit)) })
+        (Blocks.turned (placeOf (now (state .entry)) (now (memory .entry)) (now (arrivals .entry)) place) (now (block .entry))) ⌝ }
     ensures { λ r. do ⌜ r .length ≤ (← ⟦lines.len()⟧ .entry) ⌝ }
 {
-    let count = block.len() / 24;
-    let mut waiting = waiting;
+    let count = (block.len() + 23) / reading::RECORD;
+    let number = place.number;
+    let mut waiting = place.waiting;
     let mut at: usize = 0;
     let mut i: usize = 0;
     while i < count {
-        let start = 24 * i;
-        let end = start + 24;
+        let start = reading::RECORD * i;
+        let end = record_end(block, start);
         let stepped = step(
             state,
             memory,
@@ -218,8 +257,9 @@ pub fn run(
         at += stepped.length;
         i += 1;
     }
-    Stepped {
+    let place = Place {
         waiting,
-        length: at,
-    }
+        number: number + count as u64,
+    };
+    Turned { place, length: at }
 }

@@ -41,7 +41,7 @@ returns : tie.Need-returns
 returns c = let t = c .before .before .before .before .before .before .before .before .before .before .before .before .before .before .before .before .take-record in
     let a = c .before .before .before .before .before .before .before .before .before .before .before .before .before .before .before .before .before .before .before .before .before .before .before .before .before .before .before .args in
     let l = length-event (a .number) (t .result .waiting .records) (eventOf (t .result .event) (t .last .1 .1 .1 .1 .1 .1 .0) (t .last .1 .1 .1 .1 .1 .1 .1 .0)) in
-    (stepped (tapeOf (a .state .now) (a .memory .now) (a .arrivals .now) (a .waiting)) (a .number) (a .bytes .now) _ (t .ensures) _ (put-start (c .before .before .put-event .ensures) l (c .before .before .before .before .before .before .before .before .before .before .before .before .before .before .before .before .before .before .before .before .before .before .before .before .before .before .before .pre .2)), put-within (c .before .before .put-event .ensures) l)
+    (stepped (tapeOf (a .state .now) (a .memory .now) (a .arrivals .now) (a .waiting)) (a .number) (a .bytes .now) _ (t .ensures) _ (put-start (c .before .before .put-event .ensures) l (c .before .before .before .before .before .before .before .before .before .before .before .before .before .before .before .before .before .before .before .before .before .before .before .before .before .before .before .pre .1)), put-within (c .before .before .put-event .ensures) l)
 
 pub step-spec : {M : Type 1} → statement M
 step-spec =
