@@ -1,38 +1,74 @@
-// The tape program: records from standard input, their lines to standard output.
-ghost use Prim.Native.Nat.{_+_, _≤_, _<_, _^_};
+// The tape program: records from standard input, their lines to standard output. What can't be read or written is said on standard error.
+ghost use Prim.Native.Nat.{_≤_, _<_, _^_};
 ghost use mathlib.Core.Path.{_≡_};
-ghost use lib.ListN.{length};
+ghost use mathlib.Core.Bool.{true, _&&_};
+ghost use lib.ListN.{length, take};
+ghost use lib.Dec.{eqb};
+ghost use Rattle.io.specs.Counts.{Counts};
+ghost use Rattle.tapes.specs.Blocks as Blocks;
+ghost use Rattle.tapes.specs.Values.{placeOf};
 use fresh::Router;
+use libc::STDERR_FILENO;
 use libc::STDIN_FILENO;
 use libc::STDOUT_FILENO;
-use tapes::printing;
+use tapes::reading;
 use tapes::stepping;
-use tapes::stepping::Waiting;
+use tapes::stepping::Place;
+use tapes::stepping::Turned;
 
-// 1,024 records, and room for seven characters of lines a byte, as `stepping::run` asks.
+// 1,024 records, and room for 161 characters of lines for each, as `stepping::run` asks.
 const BLOCK: usize = 24576;
 
-const LINES: usize = 172032;
+const LINES: usize = 164864;
 
-// A tape is read to its end, or to 2 ^ 40 blocks of 1,024 records each, which is more than any disk holds: there reading would stop as at an end.
+// A tape is read to its end, or to 2 ^ 40 blocks, which are 2 ^ 50 records and more than any disk holds.
 const BLOCKS: u64 = 1099511627776;
 
-// Between blocks: the arrivals that wait, the records read, and whether there is more to read.
-struct Place {
-    waiting: Waiting,
-    number: u64,
+// The bytes of a block that did not fill: all n at the input's end; the whole records of them after a failed read, which is said.
+fn last_bytes(n: usize, got: isize) -> usize
+    ensures { λ r. ⌜ r ≤ n ⌝ }
+{
+    if got < 0 {
+        io::write_all(STDERR_FILENO, b"tape: standard input can't be read\n");
+        return n - n % reading::RECORD;
+    }
+    n
+}
+
+// Fills a block from standard input as far as that goes, and gives how many bytes it has. (`io::read_full` would not tell a failed read from the end.)
+fn read_block(block: &mut [u8]) -> usize
+    ensures { λ r. ⌜ Counts r (now (block .exit)) ⌝ }
+{
+    let mut n: usize = 0;
+    while n < block.len() {
+        let got = libc::read(STDIN_FILENO, &mut block[n..]);
+        let count = io::count(got, &block[n..]);
+        if count == 0 {
+            return last_bytes(n, got);
+        }
+        n += count;
+    }
+    n
+}
+
+// Writes lines to standard output, or says that it can't.
+fn write_lines(lines: &[u8]) -> bool {
+    let written = io::write_all(STDOUT_FILENO, lines);
+    if !written {
+        io::write_all(STDERR_FILENO, b"tape: standard output can't be written\n");
+    }
+    written
+}
+
+// A turn's block had so many bytes; whether its lines were written, and whether there is more to read.
+struct TurnEnd {
+    turned: Turned,
+    count: usize,
+    written: bool,
     more: bool,
 }
 
-// A rest of fewer than 24 bytes is refused with 9 and ends the reading.
-fn refuse_rest(number: u64, lines: &mut [u8])
-    requires { ⌜ 26 ≤ length (now lines) ⌝ }
-{
-    let length = printing::put_refused(lines, 0, number, 9);
-    io::write_all(STDOUT_FILENO, &lines[..length]);
-}
-
-// Reads a block, and writes its lines. A block that comes short is the last; so is one whose lines can't be written.
+// Reads a block, and writes its lines. A block that isn't full is the last.
 fn turn(
     state: &mut [u8],
     memory: &mut [u8],
@@ -40,66 +76,57 @@ fn turn(
     place: Place,
     block: &mut [u8],
     lines: &mut [u8],
-) -> Place
-    requires { ⌜ (length (now arrivals) ≡ 100) × (length (now block) ≡ 24576) × (length (now lines) ≡ 172032) × (place .number < 2 ^ 58) ⌝ }
-    ensures { λ r. ⌜ r .number ≤ place .number + 1024 ⌝ }
+) -> TurnEnd
+    requires { ⌜ (length (now arrivals) ≡ 100) × (length (now block) ≡ 24576) × (length (now lines) ≡ 164864) × (place .number < 2 ^ 58) ⌝ }
+    ensures { λ r. ⌜ _≡_ {A = Blocks.Turned}
+        (record { place = placeOf (now (state .exit)) (now (memory .exit)) (now (arrivals .exit)) (r .turned .place); lines = take (r .turned .length) (now (lines .exit)) })
+        (Blocks.turned (placeOf (now (state .entry)) (now (memory .entry)) (now (arrivals .entry)) place) (take (r .count) (now (block .exit)))) ⌝ }
+    ensures { λ r. ⌜ Counts (r .count) (now (block .exit)) ⌝ }
+    ensures { λ r. ⌜ r .more ≡ (eqb (r .count) 24576 && r .written) ⌝ }
 {
-    let n = io::read_full(STDIN_FILENO, block);
-    let waiting = place.waiting;
-    let stepped = stepping::run(
-        state,
-        memory,
-        arrivals,
-        waiting,
-        place.number,
-        &block[..n],
-        lines,
-    );
-    let length = stepped.length;
-    let written = io::write_all(STDOUT_FILENO, &lines[..length]);
-    let number = place.number + (n / 24) as u64;
-    let waiting = stepped.waiting;
-    if !written {
-        return Place {
-            waiting,
-            number,
-            more: false,
-        };
-    }
-    if n % 24 != 0 {
-        refuse_rest(number + 1, lines);
-        return Place {
-            waiting,
-            number,
-            more: false,
-        };
-    }
-    Place {
-        waiting,
-        number,
-        more: n == BLOCK,
+    let count = read_block(block);
+    let turned = stepping::run(state, memory, arrivals, place, &block[..count], lines);
+    let length = turned.length;
+    let written = write_lines(&lines[..length]);
+    let more = (count == BLOCK) & written;
+    TurnEnd {
+        turned,
+        count,
+        written,
+        more,
     }
 }
 
-fn run(state: &mut [u8], memory: &mut [u8], arrivals: &mut [u8], block: &mut [u8], lines: &mut [u8])
-    requires { ⌜ (length (now arrivals) ≡ 100) × (length (now block) ≡ 24576) × (length (now lines) ≡ 172032) ⌝ }
+// The place after the last block, and whether reading stopped before the input's end.
+struct RunEnd {
+    place: Place,
+    more: bool,
+}
+
+// The whole tape, block after block.
+fn run(
+    state: &mut [u8],
+    memory: &mut [u8],
+    arrivals: &mut [u8],
+    block: &mut [u8],
+    lines: &mut [u8],
+) -> RunEnd
+    requires { ⌜ (length (now state) ≡ 1804) × (length (now memory) ≡ 5120) × (length (now arrivals) ≡ 100) × (length (now block) ≡ 24576) × (length (now lines) ≡ 164864) ⌝ }
+    ensures { λ r. ⌜ Blocks.Reached (placeOf (now (state .exit)) (now (memory .exit)) (now (arrivals .exit)) (r .place)) ⌝ }
+    ensures { λ r. ⌜ (r .more ≡ true → r .place .number ≡ 2 ^ 50) ⌝ }
 {
-    let mut place = Place {
-        waiting: Waiting {
-            mask: 0,
-            records: [0; 5],
-        },
-        number: 0,
-        more: true,
-    };
+    let mut place = stepping::begin(state, memory, arrivals);
     let mut blocks: u64 = 0;
     while blocks < BLOCKS {
-        if !place.more {
-            return;
+        let end = turn(state, memory, arrivals, place, block, lines);
+        let turned = end.turned;
+        place = turned.place;
+        if !end.more {
+            return RunEnd { place, more: false };
         }
-        place = turn(state, memory, arrivals, place, block, lines);
         blocks += 1;
     }
+    RunEnd { place, more: true }
 }
 
 fn main() {
@@ -108,12 +135,14 @@ fn main() {
     let mut arrivals = [0u8; Router::ARRIVALS];
     let mut block = [0u8; BLOCK];
     let mut lines = [0u8; LINES];
-    router::router_fresh(&mut state, &mut memory, 0);
-    run(
+    let end = run(
         &mut state,
         &mut memory,
         &mut arrivals,
         &mut block,
         &mut lines,
     );
+    if end.more {
+        io::write_all(STDERR_FILENO, b"tape: reading stopped after 2^50 records\n");
+    }
 }

@@ -1,6 +1,6 @@
 -- The tape as a whole: joined inputs are one input, so blocks of whole records and a last one print what their bytes print. Assumes nothing.
-use Prim.Native.Nat.{ℕ, zero, suc, _+_, _*_, _/_, _%_, _≤_}
-use mathlib.Core.Path.{_≡_, refl, ap, _∙_}
+use Prim.Native.Nat.{ℕ, zero, suc, _+_, _*_, _%_, _≤_}
+use mathlib.Core.Path.{_≡_, refl, ap}
 use mathlib.Core.List.{List, [], _∷_, _++_, append-nil, append-assoc, flatten}
 use native.Mathlib.Nat.{add-zero, add-suc}
 use native.Mathlib.Omega.{arith}
@@ -10,7 +10,7 @@ use Rattle.rules.specs.Areas.{Store, quiet}
 use Rattle.rules.specs.Board8.{board8}
 use Rattle.rules.specs.Tick.{Outcome}
 use Rattle.rules.specs.Questions.{full, makeFresh}
-use Rattle.tapes.specs.Tape.{Tape, start, Printed, step, after, recordsIn, printed}
+use Rattle.tapes.specs.Tape.{Tape, start, Printed, after, recordsIn, printed}
 use Rattle.tapes.specs.Blocks.{Place, begin, Turned, turned, looped, Whole, BlocksPrintTheTape, Reached}
 
 -- ---- what the code makes

@@ -1,5 +1,5 @@
 -- `run` meets its contract. The loop's invariant: the tape and the lines so far are those after the records passed. The measure is the records that are left. Assumes nothing.
-use Prim.Native.Nat.{_-_, _*_, _/_, _≤_}
+use Prim.Native.Nat.{_-_, _*_, _≤_}
 use mathlib.Core.Path.{_≡_, refl, _∙_}
 use lib.ListN.{length, length-drop, take, drop}
 use Rattle.tapes.specs.Tape.{Printed, after}
