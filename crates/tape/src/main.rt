@@ -97,36 +97,31 @@ fn turn(
     }
 }
 
-// The place after the last block, and whether reading stopped before the input's end.
-struct RunEnd {
-    place: Place,
-    more: bool,
-}
-
-// The whole tape, block after block.
+// The whole tape, block after block, and how the last turn ended.
 fn run(
     state: &mut [u8],
     memory: &mut [u8],
     arrivals: &mut [u8],
     block: &mut [u8],
     lines: &mut [u8],
-) -> RunEnd
+) -> TurnEnd
     requires { ⌜ (length (now state) ≡ 1804) × (length (now memory) ≡ 5120) × (length (now arrivals) ≡ 100) × (length (now block) ≡ 24576) × (length (now lines) ≡ 164864) ⌝ }
-    ensures { λ r. ⌜ Blocks.Reached (placeOf (now (state .exit)) (now (memory .exit)) (now (arrivals .exit)) (r .place)) ⌝ }
-    ensures { λ r. ⌜ (r .more ≡ true → r .place .number ≡ 2 ^ 50) ⌝ }
+    ensures { λ r. ⌜ Blocks.Reached (take (r .count) (now (block .exit))) (placeOf (now (state .exit)) (now (memory .exit)) (now (arrivals .exit)) (r .turned .place)) ⌝ }
+    ensures { λ r. ⌜ r .more ≡ (eqb (r .count) 24576 && r .written) ⌝ }
+    ensures { λ r. ⌜ (r .more ≡ true → r .turned .place .number ≡ 2 ^ 50) ⌝ }
 {
     let mut place = stepping::begin(state, memory, arrivals);
-    let mut blocks: u64 = 0;
+    let mut blocks: u64 = 1;
     while blocks < BLOCKS {
         let end = turn(state, memory, arrivals, place, block, lines);
+        if !end.more {
+            return end;
+        }
         let turned = end.turned;
         place = turned.place;
-        if !end.more {
-            return RunEnd { place, more: false };
-        }
         blocks += 1;
     }
-    RunEnd { place, more: true }
+    turn(state, memory, arrivals, place, block, lines)
 }
 
 fn main() {

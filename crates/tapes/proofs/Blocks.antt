@@ -68,7 +68,7 @@ looped-joined p (b ∷ bs) last w =
     let rest = flatten bs ++ last in
     let whole : length b ≡ 24 * recordsIn b = omega (arith, w .0) in
     let sum : recordsIn (b ++ rest) ≡ recordsIn b + recordsIn rest = omega (arith, length-append b rest, whole) in
-    rw (append-assoc b (flatten bs) last, sum, after-joined (p .tape) (p .number) b rest (recordsIn b) whole (recordsIn rest), looped-joined (turned p b .place) bs last (w .1))
+    rw (append-assoc b (flatten bs) last, sum, after-joined (p .tape) (p .number) b rest (recordsIn b) whole (recordsIn rest)) (ap (λ (l : List ℕ). turned p b .lines ++ l) (looped-joined (turned p b .place) bs last (w .1)))
 
 pub blocks-print-the-tape : BlocksPrintTheTape
 unfolding BlocksPrintTheTape begin printed
@@ -87,25 +87,21 @@ whole-then [] b w h = (h, tt)
 whole-then (x ∷ xs) b w h = (w .0, whole-then xs b (w .1) h)
 
 -- After blocks of whole records only.
-unfoldable pub Passed : Place → Type 0
+abbrev pub Passed : Place → Type 0
 Passed p = (blocks : List (List ℕ)) × Whole blocks × (p ≡ looped begin blocks .place)
 
 pub passed-none : (p : Place) → p ≡ begin → Passed p
-unfolding Passed Whole looped
+unfolding Whole looped
 passed-none p e = ([], tt, e)
 
+-- A turn more.
 module _ (p : Place) (passed : Passed p) (b : List ℕ) (q : Place) (turn : q ≡ turned p b .place) where
+  place-then : q ≡ looped begin (passed .0 ++ (b ∷ [])) .place
+  place-then = rw (looped-then begin (passed .0) b, ← passed .2, turn)
+
+  pub reached-then : Reached b q
+  unfolding Reached
+  reached-then = (passed .0, passed .1, place-then)
+
   pub passed-then : length b % 24 ≡ 0 → Passed q
-  unfolding Passed
-  passed-then h = (passed .0 ++ (b ∷ []), whole-then (passed .0) b (passed .1) h, rw (looped-then begin (passed .0) b, ← passed .2, turn))
-
-  pub reached-last : Reached q
-  unfolding Passed Reached
-  reached-last = (passed .0, b, passed .1, rw (looped-then begin (passed .0) b, ← passed .2, turn))
-
-turned-none : (p : Place) → p ≡ turned p [] .place
-unfolding turned after
-turned-none p = rw (add-zero (p .number))
-
-pub reached-passed : (p : Place) → Passed p → Reached p
-reached-passed p passed = reached-last p passed [] p (turned-none p)
+  passed-then h = (passed .0 ++ (b ∷ []), whole-then (passed .0) b (passed .1) h, place-then)

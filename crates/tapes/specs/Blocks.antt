@@ -40,6 +40,6 @@ Whole (block ∷ blocks) = (length block % 24 ≡ 0) × Whole blocks
 unfoldable pub BlocksPrintTheTape : Type 0
 BlocksPrintTheTape = (blocks : List (List ℕ)) (last : List ℕ) → Whole blocks → looped begin (blocks ++ (last ∷ [])) .lines ≡ printed (flatten blocks ++ last)
 
--- The place after such blocks, whatever they hold.
-unfoldable pub Reached : Place → Type 0
-Reached p = (blocks : List (List ℕ)) × (last : List ℕ) × Whole blocks × (p ≡ looped begin (blocks ++ (last ∷ [])) .place)
+-- The place is that after such blocks, of which the last is known.
+unfoldable pub Reached : List ℕ → Place → Type 0
+Reached last p = (blocks : List (List ℕ)) × Whole blocks × (p ≡ looped begin (blocks ++ (last ∷ [])) .place)
