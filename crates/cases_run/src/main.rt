@@ -5,6 +5,7 @@ ghost use mathlib.Core.Bool.{true};
 use fresh::Router;
 use libc::STDOUT_FILENO;
 use tapes::stepping;
+use tapes::stepping::Place;
 use tapes::stepping::Waiting;
 
 fn print(text: &[u8]) {
@@ -383,8 +384,9 @@ fn run_tape(state: &mut [u8], memory: &mut [u8], tape: &[u8; 192], expected: &[u
         mask: 0,
         records: [0; 5],
     };
-    let stepped = stepping::run(state, memory, &mut arrivals, waiting, 0, tape, &mut lines);
-    let length = stepped.length;
+    let place = Place { waiting, number: 0 };
+    let turned = stepping::run(state, memory, &mut arrivals, place, tape, &mut lines);
+    let length = turned.length;
     report_lines(expected, &lines[..length]);
 }
 
