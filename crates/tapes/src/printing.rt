@@ -11,6 +11,7 @@ ghost use Rattle.tapes.specs.Put.{Put};
 ghost use Rattle.tapes.specs.Values.{eventOf};
 ghost use Rattle.tapes.specs.Tape.{refusedArrival, tickedLines, eventLines};
 use crate::stepping::Event;
+use fresh::Router;
 
 // A character.
 pub fn put_char(lines: &mut [u8], at: usize, b: u8) -> usize
@@ -135,7 +136,7 @@ fn put_ports(lines: &mut [u8], at: usize, outgoing: &[u8], answers: &[u8]) -> us
 {
     let mut place = at;
     let mut port: usize = 0;
-    while port < 5 {
+    while port < Router::PORTS {
         place = put_port(lines, place, port, outgoing, answers);
         port += 1;
     }
@@ -216,7 +217,7 @@ fn put_refused_arrivals(lines: &mut [u8], records: [u64; 5], answers: &[u8]) -> 
 {
     let mut place: usize = 0;
     let mut port: usize = 0;
-    while port < 5 {
+    while port < Router::PORTS {
         place = put_refused_arrival(lines, place, port, records, answers);
         port += 1;
     }
