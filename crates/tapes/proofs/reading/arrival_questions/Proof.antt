@@ -5,7 +5,6 @@ use Rattle.tapes.proofs.Questions.{asked}
 use borrow.Author.Needs.{needs}
 use Rattle.tapes.proofs.reading.arrival_questions.Statement.{statement}
 use Rattle.tapes.proofs.reading.arrival_questions.Tie as tie
-use Rattle.area.proofs.has_port.Reads as has-port-reads
 
 -- src/reading.rt:61:8
 shared-slice-read-if1 : tie.Need-shared-slice-read-if1

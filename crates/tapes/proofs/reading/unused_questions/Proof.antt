@@ -3,7 +3,6 @@ use borrow.Author.Needs.{needs}
 use Rattle.tapes.specs.Records.{unusedRefusal}
 use Rattle.tapes.proofs.reading.unused_questions.Statement.{statement}
 use Rattle.tapes.proofs.reading.unused_questions.Tie as tie
-use Rattle.tapes.proofs.reading.is_blank.Reads as is-blank-reads
 
 -- src/reading.rt:51:8
 is-blank-requires : tie.Need-is-blank-requires
