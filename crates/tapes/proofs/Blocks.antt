@@ -9,7 +9,7 @@ use lib.Seq.{sets, sets-eq, take-append-le, drop-append-le, drop-append-add}
 use Rattle.rules.specs.Areas.{Store, quiet}
 use Rattle.rules.specs.Board8.{board8}
 use Rattle.rules.specs.Tick.{Outcome}
-use Rattle.rules.specs.Questions.{full, makeFresh}
+use Rattle.rules.specs.Questions.{full, fresh, makeFresh}
 use Rattle.tapes.specs.Tape.{Tape, start, Printed, after, recordsIn, printed}
 use Rattle.tapes.specs.Blocks.{Place, begin, Turned, turned, looped, Whole, BlocksPrintTheTape, Reached}
 
@@ -22,7 +22,7 @@ pub begun : (s t : Store) (n : ℕ) (a x : List ℕ) → length (s .state) ≡ 1
     → _≡_ {A = Place} (record { tape = record { store = t; waiting = 0; records = replicate 5 0; arrivals = x }; number = 0 }) begin
 unfolding begin start makeFresh full
 begun s t n a x hs hm ha e h =
-    let f = ap (λ (o : Outcome). o .store) (rw (hs, hm) at e) in
+    let f : t ≡ fresh board8 0 = ap (λ (o : Outcome). o .store) (rw (hs, hm) at e) in
     rw (f, h, sets-eq (replicate 100 0) a 0 (omega arith), drop-of-length-le a {i = 100} (omega arith))
 
 -- A block whose records have all been taken.
