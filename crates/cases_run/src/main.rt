@@ -4,9 +4,6 @@ ghost use mathlib.Core.Path.{_≡_};
 ghost use mathlib.Core.Bool.{true};
 use fresh::Router;
 use libc::STDOUT_FILENO;
-use tapes::stepping;
-use tapes::stepping::Place;
-use tapes::stepping::Waiting;
 
 fn print(text: &[u8]) {
     io::write_all(STDOUT_FILENO, text);
@@ -347,71 +344,6 @@ fn all_stored(state: &mut [u8], memory: &mut [u8]) {
     );
 }
 
-fn put_record(tape: &mut [u8], record: usize, kind: u8, first: u8, second: u8) {
-    if record < 8 {
-        area::put_byte(tape, 24 * record, kind);
-        area::put_byte(tape, 24 * record + 1, first);
-        area::put_byte(tape, 24 * record + 2, second);
-    }
-}
-
-fn put_controls(tape: &mut [u8]) {
-    put_record(tape, 0, 0x43, 0, 33);
-    put_record(tape, 1, 0x43, 1, 10);
-    put_record(tape, 2, 0x43, 2, 2);
-    put_record(tape, 3, 0x43, 3, 5);
-}
-
-fn put_rest(tape: &mut [u8]) {
-    put_record(tape, 4, 0x41, 0, 0);
-    put_arrival_packet(tape);
-    put_record(tape, 5, 0x54, 0, 0);
-    put_record(tape, 6, 0x54, 0, 0);
-    put_record(tape, 7, 0x41, 9, 0);
-}
-
-// Identifier 5, time 1.
-fn put_arrival_packet(tape: &mut [u8]) {
-    area::put_byte(tape, 100, 5);
-    area::put_byte(tape, 101, 1);
-}
-
-// The lines of a tape of eight records.
-fn run_tape(state: &mut [u8], memory: &mut [u8], tape: &[u8; 192], expected: &[u8]) {
-    let mut arrivals = [0u8; Router::ARRIVALS];
-    let mut lines = [0u8; 1344];
-    let waiting = Waiting {
-        mask: 0,
-        records: [0; 5],
-    };
-    let place = Place { waiting, number: 0 };
-    let turned = stepping::run(state, memory, &mut arrivals, place, tape, &mut lines);
-    let length = turned.length;
-    report_lines(expected, &lines[..length]);
-}
-
-fn report_lines(expected: &[u8], found: &[u8]) {
-    print(b"the tape's worked example: expected\n");
-    print(expected);
-    print(b"found\n");
-    print(found);
-    print(b"the tape's worked example");
-    print_verdict(is_same(expected, found));
-}
-
-fn worked_example(state: &mut [u8], memory: &mut [u8]) {
-    let mut tape = [0u8; 192];
-    put_controls(&mut tape);
-    put_rest(&mut tape);
-    router::router_fresh(state, memory, 0);
-    run_tape(
-        state,
-        memory,
-        &tape,
-        b"T 000 --- --- --- --- --- 0000\nT 001 --- 21N --- --- --- 0000\nR 000008 11\n",
-    );
-}
-
 fn main() {
     let mut state = [0u8; Router::STATE];
     let mut memory = [0u8; Router::MEMORY];
@@ -420,5 +352,4 @@ fn main() {
     equal_keys(&mut state, &mut memory);
     five_ports(&mut state, &mut memory);
     all_stored(&mut state, &mut memory);
-    worked_example(&mut state, &mut memory);
 }
