@@ -1,6 +1,6 @@
 -- `put_event` meets its contract: each arm is a case of `eventLines`. Assumes nothing.
 use Rattle.tapes.specs.Tape.{eventLines}
-use Rattle.tapes.proofs.Stores.{put-nothing}
+use Rattle.text.proofs.Stores.{put-nothing}
 use borrow.Author.Needs.{needs}
 use Rattle.tapes.proofs.printing.put_event.Statement.{statement}
 use Rattle.tapes.proofs.printing.put_event.Tie as tie

@@ -1,7 +1,7 @@
 -- `put_refused_arrival` meets its contract, by its test. Assumes nothing.
 use borrow.Author.Tests.{le-leb, lt-leb}
 use Rattle.tapes.specs.Tape.{refusedArrival}
-use Rattle.tapes.proofs.Stores.{put-nothing}
+use Rattle.text.proofs.Stores.{put-nothing}
 use borrow.Author.Needs.{needs}
 use Rattle.tapes.proofs.printing.put_refused_arrival.Statement.{statement}
 use Rattle.tapes.proofs.printing.put_refused_arrival.Tie as tie

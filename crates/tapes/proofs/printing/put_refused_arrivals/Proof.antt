@@ -3,9 +3,9 @@ use Prim.Native.Nat.{_*_, _-_, _≤_}
 use mathlib.Core.Path.{_≡_, refl}
 use native.Mathlib.Numerals.{add-one}
 use lib.ListN.{length}
-use Rattle.tapes.specs.Put.{Put}
+use Rattle.text.specs.Put.{Put}
 use Rattle.tapes.specs.Tape.{refusedArrival}
-use Rattle.tapes.proofs.Stores.{ports, all-ports, put-then, put-nothing}
+use Rattle.text.proofs.Stores.{ports, all-ports, put-then, put-nothing}
 use Rattle.tapes.proofs.Texts.{length-arrival}
 use borrow.Author.Needs.{needs}
 use native.Mathlib.Omega.{arith}

@@ -1,6 +1,6 @@
 -- `put_ticked` meets its contract: the lines of the arrivals, then the tick's. Assumes nothing.
 use Rattle.tapes.specs.Tape.{tickedLines}
-use Rattle.tapes.proofs.Stores.{put-then}
+use Rattle.text.proofs.Stores.{put-then}
 use Rattle.tapes.proofs.Texts.{length-arrivals}
 use borrow.Author.Needs.{needs}
 use native.Mathlib.Omega.{arith}

@@ -1,6 +1,6 @@
 -- `step` meets its contract: the record's own contract, and all its lines fit. Assumes nothing.
 use Rattle.tapes.proofs.Steps.{stepped}
-use Rattle.tapes.proofs.Stores.{put-start, put-within}
+use Rattle.text.proofs.Stores.{put-start, put-within}
 use Rattle.tapes.proofs.Texts.{length-event}
 use Rattle.tapes.specs.Values.{tapeOf, eventOf}
 use borrow.Author.Needs.{needs}

@@ -1,7 +1,7 @@
 -- `letter` meets its contract, by its test. Assumes nothing.
 use borrow.Author.Tests.{eq-eqb, ne-eqb}
-use Rattle.tapes.proofs.printing.letter.Statement.{statement}
-use Rattle.tapes.proofs.printing.letter.Tie as tie
+use Rattle.text.proofs.letter.Statement.{statement}
+use Rattle.text.proofs.letter.Tie as tie
 
 returns : tie.Need-returns
 returns c = rw (eq-eqb _ _ (c .if1 .taken))

@@ -5,10 +5,10 @@ use mathlib.Core.Path.{_≡_}
 use native.Mathlib.Omega.{arith}
 use lib.ListN.{length}
 use borrow.Author.Needs.{needs}
-use Rattle.tapes.specs.Lines.{atLeastSix, recordNumber}
-use Rattle.tapes.proofs.Texts.{length-short, length-long, length-last}
-use Rattle.tapes.proofs.printing.number_digits.Statement.{statement}
-use Rattle.tapes.proofs.printing.number_digits.Tie as tie
+use Rattle.text.specs.Lines.{atLeastSix, recordNumber}
+use Rattle.text.proofs.Texts.{length-short, length-long, length-last}
+use Rattle.text.proofs.number_digits.Statement.{statement}
+use Rattle.text.proofs.number_digits.Tie as tie
 
 abbrev Inv-loop : tie.InvT-loop
 Inv-loop number more₀ rest₀ more rest = (more ≤ 14) × (length (atLeastSix more rest) + 14 ≡ length (recordNumber number) + more)

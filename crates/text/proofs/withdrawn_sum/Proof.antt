@@ -1,9 +1,9 @@
 -- `withdrawn_sum` meets its contract: the sum of what each port gives. Assumes nothing.
-use Rattle.tapes.specs.Lines.{withdrawnSum}
+use Rattle.text.specs.Lines.{withdrawnSum}
 use borrow.Author.Needs.{needs}
 use native.Mathlib.Omega.{arith}
-use Rattle.tapes.proofs.printing.withdrawn_sum.Statement.{statement}
-use Rattle.tapes.proofs.printing.withdrawn_sum.Tie as tie
+use Rattle.text.proofs.withdrawn_sum.Statement.{statement}
+use Rattle.text.proofs.withdrawn_sum.Tie as tie
 
 withdrawn-on-requires : tie.Need-withdrawn-on-requires
 withdrawn-on-requires c κs = search needs

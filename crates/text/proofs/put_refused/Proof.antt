@@ -1,11 +1,11 @@
 -- `put_refused` meets its contract: the parts of the line one after the other, the number as its last digits. Assumes nothing.
-use Rattle.tapes.proofs.Stores.{put-then}
-use Rattle.tapes.proofs.Texts.{length-decimal, length-number, number-decimal}
-use Rattle.tapes.specs.Lines.{refusedLine}
+use Rattle.text.proofs.Stores.{put-then}
+use Rattle.text.proofs.Texts.{length-decimal, length-number, number-decimal}
+use Rattle.text.specs.Lines.{refusedLine}
 use borrow.Author.Needs.{needs}
 use native.Mathlib.Omega.{arith}
-use Rattle.tapes.proofs.printing.put_refused.Statement.{statement}
-use Rattle.tapes.proofs.printing.put_refused.Tie as tie
+use Rattle.text.proofs.put_refused.Statement.{statement}
+use Rattle.text.proofs.put_refused.Tie as tie
 
 number-digits-requires : tie.Need-number-digits-requires
 number-digits-requires c κs = search needs

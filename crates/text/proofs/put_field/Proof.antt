@@ -1,9 +1,9 @@
 -- `put_field` meets its contract: each return is a case of `field`. Assumes nothing.
 use borrow.Author.Tests.{eq-eqb, ne-eqb}
-use Rattle.tapes.specs.Lines.{field}
+use Rattle.text.specs.Lines.{field}
 use borrow.Author.Needs.{needs}
-use Rattle.tapes.proofs.printing.put_field.Statement.{statement}
-use Rattle.tapes.proofs.printing.put_field.Tie as tie
+use Rattle.text.proofs.put_field.Statement.{statement}
+use Rattle.text.proofs.put_field.Tie as tie
 
 put-three-requires : tie.Need-put-three-requires
 put-three-requires c κs = search needs

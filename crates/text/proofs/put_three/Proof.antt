@@ -2,9 +2,9 @@
 use native.Mathlib.Omega.{arith}
 use lib.ListN.{length-set}
 use borrow.Author.Needs.{needs}
-use Rattle.tapes.proofs.Stores.{put-three}
-use Rattle.tapes.proofs.printing.put_three.Statement.{statement}
-use Rattle.tapes.proofs.printing.put_three.Tie as tie
+use Rattle.text.proofs.Stores.{put-three}
+use Rattle.text.proofs.put_three.Statement.{statement}
+use Rattle.text.proofs.put_three.Tie as tie
 
 slice-write-lines : tie.Need-slice-write-lines
 slice-write-lines c = search needs

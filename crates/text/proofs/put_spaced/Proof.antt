@@ -1,8 +1,8 @@
 -- `put_spaced` meets its contract: a space, then the digits. Assumes nothing.
-use Rattle.tapes.proofs.Stores.{put-then}
+use Rattle.text.proofs.Stores.{put-then}
 use borrow.Author.Needs.{needs}
-use Rattle.tapes.proofs.printing.put_spaced.Statement.{statement}
-use Rattle.tapes.proofs.printing.put_spaced.Tie as tie
+use Rattle.text.proofs.put_spaced.Statement.{statement}
+use Rattle.text.proofs.put_spaced.Tie as tie
 
 put-char-requires : tie.Need-put-char-requires
 put-char-requires c κs = search needs

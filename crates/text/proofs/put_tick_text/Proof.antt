@@ -1,11 +1,11 @@
 -- `put_tick_text` meets its contract: the parts of the text one after the other. Assumes nothing.
-use Rattle.tapes.specs.Lines.{tickText}
-use Rattle.tapes.proofs.Stores.{put-then}
-use Rattle.tapes.proofs.Texts.{length-decimal, length-ports}
+use Rattle.text.specs.Lines.{tickText}
+use Rattle.text.proofs.Stores.{put-then}
+use Rattle.text.proofs.Texts.{length-decimal, length-ports}
 use borrow.Author.Needs.{needs}
 use native.Mathlib.Omega.{arith}
-use Rattle.tapes.proofs.printing.put_tick_text.Statement.{statement}
-use Rattle.tapes.proofs.printing.put_tick_text.Tie as tie
+use Rattle.text.proofs.put_tick_text.Statement.{statement}
+use Rattle.text.proofs.put_tick_text.Tie as tie
 
 withdrawn-sum-requires : tie.Need-withdrawn-sum-requires
 withdrawn-sum-requires c κs = search needs

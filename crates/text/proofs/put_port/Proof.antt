@@ -1,9 +1,9 @@
 -- `put_port` meets its contract: a space, then the field of the bytes read. Assumes nothing.
-use Rattle.tapes.proofs.Stores.{put-then}
-use Rattle.tapes.specs.Lines.{portField}
+use Rattle.text.proofs.Stores.{put-then}
+use Rattle.text.specs.Lines.{portField}
 use borrow.Author.Needs.{needs}
-use Rattle.tapes.proofs.printing.put_port.Statement.{statement}
-use Rattle.tapes.proofs.printing.put_port.Tie as tie
+use Rattle.text.proofs.put_port.Statement.{statement}
+use Rattle.text.proofs.put_port.Tie as tie
 
 byte-requires : tie.Need-byte-requires
 byte-requires c κs = search needs

@@ -6,10 +6,10 @@ use native.Mathlib.Omega.{arith}
 use lib.ListN.{length, length-set}
 use lib.Seq.{sets}
 use borrow.Author.Needs.{needs}
-use Rattle.tapes.specs.Lines.{decimal}
-use Rattle.tapes.proofs.Texts.{length-decimal, digit-first}
-use Rattle.tapes.proofs.printing.put_decimal.Statement.{statement}
-use Rattle.tapes.proofs.printing.put_decimal.Tie as tie
+use Rattle.text.specs.Lines.{decimal}
+use Rattle.text.proofs.Texts.{length-decimal, digit-first}
+use Rattle.text.proofs.put_decimal.Statement.{statement}
+use Rattle.text.proofs.put_decimal.Tie as tie
 
 abbrev Inv-loop : tie.InvT-loop
 Inv-loop lines₀ at width value left₀ rest₀ lines left rest = (left ≤ width) × (length lines ≡ length lines₀) × (sets lines at (decimal left rest) ≡ sets lines₀ at (decimal width value))

@@ -1,11 +1,11 @@
 -- `put_tick` meets its contract: the text, then the line feed. Assumes nothing.
-use Rattle.tapes.specs.Lines.{tickLine}
-use Rattle.tapes.proofs.Stores.{put-then}
-use Rattle.tapes.proofs.Texts.{length-tick-text}
+use Rattle.text.specs.Lines.{tickLine}
+use Rattle.text.proofs.Stores.{put-then}
+use Rattle.text.proofs.Texts.{length-tick-text}
 use borrow.Author.Needs.{needs}
 use native.Mathlib.Omega.{arith}
-use Rattle.tapes.proofs.printing.put_tick.Statement.{statement}
-use Rattle.tapes.proofs.printing.put_tick.Tie as tie
+use Rattle.text.proofs.put_tick.Statement.{statement}
+use Rattle.text.proofs.put_tick.Tie as tie
 
 put-tick-text-requires : tie.Need-put-tick-text-requires
 put-tick-text-requires c κs = search needs

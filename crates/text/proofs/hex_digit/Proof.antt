@@ -1,9 +1,9 @@
 -- `hex_digit` meets its contract, by its test. Assumes nothing.
 use borrow.Author.Needs.{needs}
 use borrow.Author.Tests.{lt-ltb, le-ltb}
-use Rattle.tapes.specs.Lines.{hex}
-use Rattle.tapes.proofs.printing.hex_digit.Statement.{statement}
-use Rattle.tapes.proofs.printing.hex_digit.Tie as tie
+use Rattle.text.specs.Lines.{hex}
+use Rattle.text.proofs.hex_digit.Statement.{statement}
+use Rattle.text.proofs.hex_digit.Tie as tie
 
 add-result : tie.Need-add-result
 add-result c = search needs

@@ -3,14 +3,14 @@ use Prim.Native.Nat.{_+_, _*_, _-_, _≤_}
 use mathlib.Core.Path.{_≡_, refl}
 use native.Mathlib.Numerals.{add-one}
 use lib.ListN.{length}
-use Rattle.tapes.specs.Put.{Put}
-use Rattle.tapes.specs.Lines.{portField}
-use Rattle.tapes.proofs.Stores.{ports, all-ports, put-then, put-nothing}
-use Rattle.tapes.proofs.Texts.{length-port}
+use Rattle.text.specs.Put.{Put}
+use Rattle.text.specs.Lines.{portField}
+use Rattle.text.proofs.Stores.{ports, all-ports, put-then, put-nothing}
+use Rattle.text.proofs.Texts.{length-port}
 use borrow.Author.Needs.{needs}
 use native.Mathlib.Omega.{arith}
-use Rattle.tapes.proofs.printing.put_ports.Statement.{statement}
-use Rattle.tapes.proofs.printing.put_ports.Tie as tie
+use Rattle.text.proofs.put_ports.Statement.{statement}
+use Rattle.text.proofs.put_ports.Tie as tie
 
 abbrev Inv-loop : tie.InvT-loop
 Inv-loop lines₀ at outgoing answers place₀ port₀ lines place port = (port ≤ 5) × (length lines ≡ length lines₀) × (place ≡ at + 4 * port) × Put (ports (portField outgoing answers) port) at lines₀ lines place
