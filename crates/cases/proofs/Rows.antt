@@ -1,12 +1,14 @@
 -- What is seen of a row at the router over bytes, in terms of the router that never turns over: store and places are related once the arrivals are stored, and at the tick's end. Assumes nothing.
 use Prim.Native.Nat.{ℕ, zero, suc, _<_}
 use mathlib.Core.Path.{_≡_, refl, _∙_}
-use mathlib.Core.Bool.{true, cond, _&&_}
-use mathlib.Core.List.{List, [], _∷_, _++_}
+use mathlib.Core.Bool.{Bool, true, cond, _&&_}
+use mathlib.Core.List.{List, [], _∷_, _++_, map}
 use mathlib.Core.Option.{Option, none, some}
 use native.Mathlib.Omega.{arith}
+use lib.Dec.{ltb, eqb}
 use lib.IntN.{pos}
 use lib.Signed.{leZ, ltZ}
+use borrow.Author.Tests.{ltb-true, eqb-true}
 use Rattle.rules.specs.Clock.{cut, minus, offset}
 use Rattle.rules.specs.Areas.{Store, bits, packet, has}
 use Rattle.rules.specs.Board.{clock, mask}
@@ -15,13 +17,14 @@ use Rattle.rules.specs.Tick as Bytes
 use Rattle.rules.specs.Whole.{Router, Held, start, packetBytes}
 use Rattle.rules.specs.Calls.{refusal, wholeStep, Proper}
 use Rattle.rules.specs.Demand3.{byteStep}
+use Rattle.rules.proofs.Booleans.{and-left, and-right, cons-first, cons-rest}
 use Rattle.rules.proofs.Masks.{has-zero}
 use Rattle.rules.proofs.Relation.{Here, Rel}
 use Rattle.rules.proofs.Board8Laws.{lawful8}
 use Rattle.rules.proofs.Agreement.{Agree}
 use Rattle.cases.specs.Shorthand.{nines, lent}
 use Rattle.cases.specs.Rows.{Waiting, Seen, Row, expected, listed, before, outcome, arrived, whole, sameBytes, fateOf, waitingOnBytes, onBytes, beforeWhole, arrivedWhole, onWhole}
-use Rattle.cases.specs.Table.{Meets}
+use Rattle.cases.specs.Table.{AllMeet}
 use Rattle.cases.proofs.Proper.{isProper, proper}
 use Rattle.cases.proofs.Reached.{met, ended, arrived-related}
 
@@ -94,6 +97,24 @@ module _ (r : Row) (h : r .from < 256) (P : Proper 1 (start (r .from)) (r .earli
   unfolding onBytes by-router before outcome beforeWhole byteStep
   bytes-seen = rw (listed-same (waitingOnBytes r) _ 256 slot-seen, met (r .from) h (r .earlier) (r .tick) (nines 100) (nines 20) P .rel .settled .same clock refl (omega arith), done .reply)
 
--- A row is met where the router that never turns over shows it: by what it does, and by what its times cut to a byte make of it.
-pub meets : (r : Row) → r .from < 256 → isProper 1 (start (r .from)) (r .earlier ++ (lent (r .tick) ∷ [])) ≡ true → refusal 1 (lent (r .tick)) ≡ 0 → by-router r ≡ expected r → onWhole r ≡ expected r → Meets r
-meets r h p e b w = let P = proper 1 (r .earlier ++ (lent (r .tick) ∷ [])) (start (r .from)) p in record { bytes = bytes-seen r h P e ∙ b; whole = w; proper = P }
+-- ---- a table of rows, by tests computed over the whole of it
+
+-- The rows start at clock readings, their calls are proper, and their ticks are accepted.
+unfoldable pub runnable : List Row → Bool
+runnable [] = true
+runnable (r ∷ rs) = ltb (r .from) 256 && (isProper 1 (start (r .from)) (r .earlier ++ (lent (r .tick) ∷ [])) && (eqb (refusal 1 (lent (r .tick))) 0 && runnable rs))
+
+-- Rows are met where the router that never turns over shows them: by what it does, and by what its times cut to a byte make of it.
+pub all-meet : (rs : List Row) → runnable rs ≡ true → map by-router rs ≡ map expected rs → map onWhole rs ≡ map expected rs → AllMeet rs
+unfolding runnable AllMeet
+all-meet [] e b w = tt
+all-meet (r ∷ rs) e b w =
+    let k = lent (r .tick) in
+    let proper-list = isProper 1 (start (r .from)) (r .earlier ++ (k ∷ [])) in
+    let accepted = eqb (refusal 1 k) 0 in
+    let e₁ = and-right (ltb (r .from) 256) (proper-list && (accepted && runnable rs)) e in
+    let e₂ = and-right proper-list (accepted && runnable rs) e₁ in
+    let h = ltb-true (r .from) 256 (and-left (ltb (r .from) 256) (proper-list && (accepted && runnable rs)) e) in
+    let P = proper 1 (r .earlier ++ (k ∷ [])) (start (r .from)) (and-left proper-list (accepted && runnable rs) e₁) in
+    let a = eqb-true (refusal 1 k) 0 (and-left accepted (runnable rs) e₂) in
+    (record { bytes = bytes-seen r h P a ∙ cons-first b; whole = cons-first w; proper = P }, all-meet rs (and-right accepted (runnable rs) e₂) (cons-rest b) (cons-rest w))
