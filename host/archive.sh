@@ -7,7 +7,7 @@ here=$(cd "$(dirname "$0")" && pwd)
 case ${2:-} in
 '')
     cd "$here/.."
-    rt staticlib router > "$1/rt.out" 2>&1 || { cat "$1/rt.out" >&2; exit 1; }
+    { rt check router && rt staticlib router; } > "$1/rt.out" 2>&1 || { cat "$1/rt.out" >&2; exit 1; }
     tail -n 1 "$1/rt.out" >&2
     echo "$PWD/target/staticlib/librouter.a"
     ;;

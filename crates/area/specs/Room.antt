@@ -1,7 +1,9 @@
--- The free count and the slots that hold a packet make at most 256 in a sound state. Assumes nothing.
+-- Room on the stack in a sound state, and what a tick is lent once its questions are passed. Assumes nothing.
 use Prim.Native.Nat.{ℕ, _≤_}
+use mathlib.Core.Path.{_≡_}
 use mathlib.Core.Bool.{Bool}
 use mathlib.Core.List.{List}
+use lib.ListN.{length}
 use Rattle.rules.specs.Board8.{board8}
 use Rattle.rules.specs.SoundKept as Kept
 
@@ -12,3 +14,7 @@ held = Kept.held board8
 -- There is room on the stack for every slot that holds one.
 abbrev pub Room : List ℕ → Type 0
 Room s = Kept.used board8 s ≤ 256
+
+-- Whole areas, and a state with room.
+abbrev pub Lent : List ℕ → List ℕ → List ℕ → List ℕ → List ℕ → Type 0
+Lent s m arrivals out ans = (length s ≡ 1804) × (length m ≡ 5120) × (length arrivals ≡ 100) × (length out ≡ 100) × (length ans ≡ 20) × Room s

@@ -3,11 +3,8 @@ mod send;
 
 ghost use mathlib.Core.Path.{_≡_};
 ghost use mathlib.Core.List.{[], _∷_};
-ghost use Prim.Native.Nat.{_+_, _≤_};
 ghost use lib.ListN.{length};
-ghost use Rattle.rules.specs.Indices.{count};
 ghost use Rattle.rules.specs.Areas.{perPort, grantCode};
-ghost use Rattle.rules.specs.Board.{free};
 ghost use Rattle.rules.specs.Board8.{board8};
 ghost use Rattle.rules.specs.Tick.{grant, grantBytes, served, withdrawals, withdrawn, returned, advanced};
 ghost use Rattle.area.specs.Room.{Room};

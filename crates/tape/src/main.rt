@@ -11,7 +11,6 @@ use fresh::Router;
 use libc::STDERR_FILENO;
 use libc::STDIN_FILENO;
 use libc::STDOUT_FILENO;
-use tapes::reading;
 use tapes::stepping;
 use tapes::stepping::Place;
 use tapes::stepping::Turned;
@@ -30,7 +29,7 @@ fn last_bytes(n: usize, got: isize) -> usize
 {
     if got < 0 {
         io::write_all(STDERR_FILENO, b"tape: standard input can't be read\n");
-        return n - n % reading::RECORD;
+        return n - n % records::RECORD;
     }
     n
 }

@@ -16,7 +16,7 @@ use Rattle.rules.specs.Tick.{Outcome}
 use Rattle.rules.specs.Tick as Tick
 use Rattle.rules.specs.Questions.{controlWrite, tick, tickRefusal}
 use Rattle.tapes.proofs.Stores.{take-part}
-use Rattle.tapes.specs.Records.{blank, arrivalRefusal, kindRefusal, recordRefusal}
+use Rattle.records.specs.Records.{blank, arrivalRefusal, kindRefusal, recordRefusal}
 use Rattle.tapes.specs.Tape.{Tape, nothing, refused, ticked, Taken, takeControl, takeArrival, afterTick, takeTick, takeRecord, eventLines, Printed, step, after}
 
 -- A mask without port p has room for its bit.

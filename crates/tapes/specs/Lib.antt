@@ -1,4 +1,3 @@
-pub mod Records
 pub mod Tape
 pub mod Blocks
 pub mod Values

@@ -10,7 +10,7 @@ use Rattle.rules.specs.Board.{clock}
 use Rattle.rules.specs.Board8.{board8}
 use Rattle.rules.specs.Tick.{Outcome}
 use Rattle.rules.specs.Questions.{fresh, controlWrite, tick}
-use Rattle.tapes.specs.Records.{recordRefusal}
+use Rattle.records.specs.Records.{recordRefusal}
 use Rattle.text.specs.Lines.{refusedLine, tickLine}
 
 -- Between records: the router's store, and the arrivals for the coming tick: their ports, the record that brought each, and their packets.

@@ -1,4 +1,3 @@
 // A tape's records, what they come to, and the lines that they cause.
 pub mod printing;
-pub mod reading;
 pub mod stepping;

@@ -10,7 +10,6 @@ ghost use Rattle.tapes.specs.Tape as Tapes;
 ghost use Rattle.tapes.specs.Blocks as Blocks;
 ghost use Rattle.tapes.specs.Values.{tapeOf, eventOf, takenOf, placeOf};
 use crate::printing;
-use crate::reading;
 use area::Field;
 use fresh::Router;
 
@@ -120,7 +119,7 @@ pub fn take_record(
     ensures { λ r. ⌜ takenOf (now (state .exit)) (now (memory .exit)) (now (arrivals .exit)) (now (outgoing .exit)) (now (answers .exit)) r
         ≡ Tapes.takeRecord (tapeOf (now (state .entry)) (now (memory .entry)) (now (arrivals .entry)) waiting) number (now (bytes .entry)) ⌝ }
 {
-    let refusal = reading::questions(waiting.mask, bytes).number();
+    let refusal = records::questions(waiting.mask, bytes).number();
     if refusal != 0 {
         return Taken {
             waiting,
@@ -128,11 +127,11 @@ pub fn take_record(
         };
     }
     let kind = bytes[0];
-    if kind == reading::CONTROL {
+    if kind == records::CONTROL {
         let event = take_control(state, memory, bytes);
         return Taken { waiting, event };
     }
-    if kind == reading::ARRIVAL {
+    if kind == records::ARRIVAL {
         let waiting = take_arrival(arrivals, waiting, number, bytes);
         return Taken {
             waiting,
@@ -209,8 +208,8 @@ fn record_end(block: &[u8], start: usize) -> usize
     requires { ⌜ start ≤ length (now block) ⌝ }
     ensures { λ r. ⌜ (start ≤ r) × (r ≤ length (now (block .entry))) × (take (r - start) (drop start (now (block .entry))) ≡ take 24 (drop start (now (block .entry)))) ⌝ }
 {
-    if reading::RECORD <= block.len() - start {
-        return start + reading::RECORD;
+    if records::RECORD <= block.len() - start {
+        return start + records::RECORD;
     }
     block.len()
 }
@@ -236,13 +235,13 @@ pub fn run(
         (Blocks.turned (placeOf (now (state .entry)) (now (memory .entry)) (now (arrivals .entry)) place) (now (block .entry))) ⌝ }
     ensures { λ r. do ⌜ r .length ≤ (← ⟦lines.len()⟧ .entry) ⌝ }
 {
-    let count = (block.len() + 23) / reading::RECORD;
+    let count = (block.len() + 23) / records::RECORD;
     let number = place.number;
     let mut waiting = place.waiting;
     let mut at: usize = 0;
     let mut i: usize = 0;
     while i < count {
-        let start = reading::RECORD * i;
+        let start = records::RECORD * i;
         let end = record_end(block, start);
         let stepped = step(
             state,

@@ -6,8 +6,8 @@ use Rattle.router.proofs.Laws.{known, refused, accepted}
 use Rattle.router.proofs.router_control.Statement.{statement}
 use Rattle.router.proofs.router_control.Tie as tie
 
-control-questions-requires : tie.Need-control-questions-requires
-control-questions-requires c κs = search needs
+of-control-requires : tie.Need-of-control-requires
+of-control-requires c κs = search needs
 
 number-requires : tie.Need-number-requires
 number-requires c κs = search needs
@@ -16,12 +16,12 @@ same-length : tie.Need-same-length
 same-length c = search needs
 
 returns : tie.Need-returns
-returns c = refused _ _ _ _ (c .before .number .ensures ∙ c .before .before .control-questions .ensures) (c .if1 .taken)
+returns c = refused _ _ _ _ (c .before .number .ensures ∙ c .before .before .of-control .ensures) (c .if1 .taken)
 
 write-register-requires : tie.Need-write-register-requires
 write-register-requires c κs =
     let q = c .before .before .before in
-    known _ _ (q .before .before .before .before .args .value) (sym (c .before .before .number .ensures ∙ q .control-questions .ensures) ∙ c .before .if1 .left)
+    known _ _ (q .before .before .before .before .args .value) (sym (c .before .before .number .ensures ∙ q .of-control .ensures) ∙ c .before .if1 .left)
 
 same-length-2 : tie.Need-same-length-2
 same-length-2 c = search needs
@@ -30,13 +30,13 @@ returns-2 : tie.Need-returns-2
 returns-2 c =
     let w = c .before .before in
     let n = w .before .before .before in
-    accepted _ _ _ _ (n .number .ensures ∙ n .before .control-questions .ensures) (w .before .before .if1 .left) _ (w .write-register .ensures)
+    accepted _ _ _ _ (n .number .ensures ∙ n .before .of-control .ensures) (w .before .before .if1 .left) _ (w .write-register .ensures)
 
 pub router-control-spec : {M : Type 1} → statement M
 router-control-spec =
     tie.close
     (tie.spec
-    control-questions-requires
+    of-control-requires
     number-requires
     same-length
     returns

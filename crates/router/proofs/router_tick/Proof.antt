@@ -6,8 +6,8 @@ use Rattle.router.proofs.Laws.{tick-refused, tick-accepted}
 use Rattle.router.proofs.router_tick.Statement.{statement}
 use Rattle.router.proofs.router_tick.Tie as tie
 
-tick-questions-requires : tie.Need-tick-questions-requires
-tick-questions-requires c κs = search needs
+of-tick-requires : tie.Need-of-tick-requires
+of-tick-requires c κs = search needs
 
 number-requires : tie.Need-number-requires
 number-requires c κs = search needs
@@ -25,12 +25,12 @@ same-length-4 : tie.Need-same-length-4
 same-length-4 c = search needs
 
 returns : tie.Need-returns
-returns c = tick-refused _ _ _ _ _ _ _ (c .before .number .ensures ∙ c .before .before .tick-questions .ensures .0) (c .if1 .taken)
+returns c = tick-refused _ _ _ _ _ _ _ (c .before .number .ensures ∙ c .before .before .of-tick .ensures .0) (c .if1 .taken)
 
 work-requires : tie.Need-work-requires
 work-requires c κs =
     let i = c .before .before .before .before in
-    i .before .before .tick-questions .ensures .1 (sym (i .before .number .ensures) ∙ i .if1 .left)
+    i .before .before .of-tick .ensures .1 (sym (i .before .number .ensures) ∙ i .if1 .left)
 
 same-length-5 : tie.Need-same-length-5
 same-length-5 c = search needs
@@ -48,13 +48,13 @@ returns-2 : tie.Need-returns-2
 returns-2 c =
     let w = c .before .before .before .before .before .before .before .before in
     let i = w .before .before .before .before .before in
-    tick-accepted _ _ _ _ _ _ _ (i .before .number .ensures ∙ i .before .before .tick-questions .ensures .0) (i .if1 .left) _ _ _ (w .work .ensures)
+    tick-accepted _ _ _ _ _ _ _ (i .before .number .ensures ∙ i .before .before .of-tick .ensures .0) (i .if1 .left) _ _ _ (w .work .ensures)
 
 pub router-tick-spec : {M : Type 1} → statement M
 router-tick-spec =
     tie.close
     (tie.spec
-    tick-questions-requires
+    of-tick-requires
     number-requires
     same-length
     same-length-2

@@ -1,0 +1,53 @@
+-- `tick::work` meets its contract: what the steps leave and answer makes `ticked` (`ticked-is` of Laws); the arrivals leave room on the stack. Assumes nothing.
+use borrow.Author.Needs.{needs}
+use Rattle.tick.proofs.Laws.{ticked-is, length-five}
+use Rattle.tick.proofs.work.Statement.{statement}
+use Rattle.tick.proofs.work.Tie as tie
+
+arrive-requires : tie.Need-arrive-requires
+arrive-requires c κs = search needs
+
+serve-and-settle-requires : tie.Need-serve-and-settle-requires
+serve-and-settle-requires c κs =
+    let a = c .before .before .before .before .before .before .before in
+    let p = a .before .before .before .before .before .before .before .before .pre in
+    ((search needs, search needs, search needs), a .arrive .ensures .1 .1 (p .5))
+
+put-answers-requires : tie.Need-put-answers-requires
+put-answers-requires c κs =
+    let s = c .before .before .before .before .before .before .before in
+    let a = s .before .before .before .before .before .before .before .before in
+    (search needs, length-five _ _ (s .serve-and-settle .ensures .0), length-five _ _ (a .arrive .ensures .0))
+
+same-length : tie.Need-same-length
+same-length c = search needs
+
+same-length-2 : tie.Need-same-length-2
+same-length-2 c = search needs
+
+same-length-3 : tie.Need-same-length-3
+same-length-3 c = search needs
+
+same-length-4 : tie.Need-same-length-4
+same-length-4 c = search needs
+
+returns : tie.Need-returns
+returns c =
+    let q = c .before .before in
+    let s = q .before .before .before .before .before .before .before .before in
+    let a = s .before .before .before .before .before .before .before .before in
+    let e = s .serve-and-settle .ensures in
+    ticked-is _ _ _ _ _ _ _ _ _ _ _ (a .arrive .ensures .1 .0) (a .arrive .ensures .0) (e .0) (e .1 .0) (e .1 .1 .0) (e .1 .1 .1) (q .put-answers .ensures)
+
+pub work-spec : {M : Type 1} → statement M
+work-spec =
+    tie.close
+    (tie.spec
+    arrive-requires
+    serve-and-settle-requires
+    put-answers-requires
+    same-length
+    same-length-2
+    same-length-3
+    same-length-4
+    returns)
