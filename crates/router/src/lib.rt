@@ -1,4 +1,4 @@
-// The router's entries: what the board firmware calls.
+// The router's entries: what the board firmware and the display software call.
 ghost use mathlib.Core.Path.{_≡_};
 ghost use lib.ListN.{take, drop};
 ghost use Rattle.rules.specs.Areas.{quiet, display};
