@@ -3,9 +3,9 @@ use mathlib.Core.Path.{_≡_, refl}
 use Rattle.rules.specs.Board8.{table8}
 use Rattle.area.specs.declared.Field.{Field}
 use Rattle.area.specs.declared.Field.the-variants.{Clock, Horizon, Latch, Idle, Time, Deadline, Mask, Outgoing, Delay, Routes}
-use Rattle.area.specs.Fields.{the}
+use Rattle.area.specs.Fields.{fieldOf}
 
-pub one-byte : (f : Field) → table8 (the f) .1 ≡ 1
+pub one-byte : (f : Field) → table8 (fieldOf f) .1 ≡ 1
 one-byte Clock = refl
 one-byte (Horizon p) = refl
 one-byte (Latch r) = refl

@@ -8,8 +8,8 @@ use Rattle.rules.specs.Board8.{board8}
 use Rattle.rules.specs.SoundKept as Kept
 
 -- Slot i holds a packet.
-abbrev pub held : List ℕ → ℕ → Bool
-held = Kept.held board8
+abbrev pub occupied : List ℕ → ℕ → Bool
+occupied = Kept.occupied board8
 
 -- There is room on the stack for every slot that holds one.
 abbrev pub Room : List ℕ → Type 0

@@ -6,7 +6,7 @@ ghost use lib.Seq.{sets};
 ghost use Rattle.rules.specs.Areas.{has};
 ghost use Rattle.rules.specs.Board.{free};
 ghost use Rattle.rules.specs.Board8.{board8, table8};
-ghost use Rattle.area.specs.Fields.{the};
+ghost use Rattle.area.specs.Fields.{fieldOf};
 
 pub struct SlotAddress(pub u8);
 
@@ -27,7 +27,7 @@ pub enum Field {
 }
 
 fn place(f: Field) -> usize
-    ensures { λ r. ⌜ r ≡ table8 (the f) .0 ⌝ }
+    ensures { λ r. ⌜ r ≡ table8 (fieldOf f) .0 ⌝ }
 {
     match f {
         Field::Clock => 0,
@@ -72,22 +72,22 @@ pub fn copy_in(src: &[u8], dst: &mut [u8], at: usize)
 }
 
 pub fn get(state: &[u8], f: Field) -> u8
-    ensures { λ r. ⌜ r ≡ board8 .get (now (state .entry)) (the f) ⌝ }
+    ensures { λ r. ⌜ r ≡ board8 .get (now (state .entry)) (fieldOf f) ⌝ }
 {
     byte(state, place(f))
 }
 
 // A field whose place the state has, without a test of its length.
 pub fn read(state: &[u8], f: Field) -> u8
-    requires { ⌜ table8 (the f) .0 < length (now state) ⌝ }
-    ensures { λ r. ⌜ r ≡ board8 .get (now (state .entry)) (the f) ⌝ }
+    requires { ⌜ table8 (fieldOf f) .0 < length (now state) ⌝ }
+    ensures { λ r. ⌜ r ≡ board8 .get (now (state .entry)) (fieldOf f) ⌝ }
 {
     let at = place(f);
     state[at]
 }
 
 pub fn put(state: &mut [u8], f: Field, b: u8)
-    ensures { λ _. ⌜ now (state .exit) ≡ board8 .put (now (state .entry)) (the f) b ⌝ }
+    ensures { λ _. ⌜ now (state .exit) ≡ board8 .put (now (state .entry)) (fieldOf f) b ⌝ }
 {
     put_byte(state, place(f), b);
 }

@@ -13,7 +13,7 @@ use lib.Signed.{leZ}
 use Rattle.rules.specs.Indices.{counted}
 use Rattle.rules.specs.Whole.{Router, Packet, start}
 use Rattle.rules.specs.Calls.{routerAfter}
-use Rattle.rules.specs.Account.{Done, isSent, times, sentOn, withdrawnOn, leftOn, Lawful, Account}
+use Rattle.rules.specs.Account.{NotedTick, isSent, times, sentOn, withdrawnOn, leftOn, Permitted, Account}
 use Rattle.rules.proofs.Integers.{orders, suc-nat, antisym, later-differs}
 use Rattle.rules.proofs.Runs.{Run, moment, over, after-tick}
 use Rattle.cases.specs.Table.{NoThird}
@@ -23,36 +23,36 @@ use Rattle.cases.proofs.Reached.{after-calls, agreed-after}
 
 module _ (p : ℕ) (x : Packet) where
   -- How often the tick d, and the ticks h, send x or withdraw it on port p.
-  abbrev does : Done → ℕ
+  abbrev does : NotedTick → ℕ
   does d = counted (isSent x (d .report .grant p)) + times x (d .report .withdrawn p)
 
-  abbrev count : List Done → ℕ
+  abbrev count : List NotedTick → ℕ
   count h = sentOn p x h + withdrawnOn p x h
 
-  count-append : (g h : List Done) → count (g ++ h) ≡ count g + count h
+  count-append : (g h : List NotedTick) → count (g ++ h) ≡ count g + count h
   unfolding sentOn withdrawnOn
   count-append [] h = omega arith
   count-append (e ∷ g) h = let a = count-append g h in omega arith
 
   -- If none does, none is counted.
-  none-counted : (h : List Done) → ((e : Done) → List·Memᴰ e h → does e ≡ 0) → count h ≡ 0
+  none-counted : (h : List NotedTick) → ((e : NotedTick) → List·Memᴰ e h → does e ≡ 0) → count h ≡ 0
   unfolding sentOn withdrawnOn
   none-counted [] f = refl
   none-counted (e ∷ h) f = let a = f e (List·Memᴰ·head refl) in let b = none-counted h (λ g m. f g (List·Memᴰ·tail m)) in omega arith
 
   -- If only ticks with the clock of d do, d alone is counted: those before it are over, and those after it come later.
-  one-does : {r w : Router} {h : List Done} {d : Done} → Run 1 r h w → List·Memᴰ d h → ((e : Done) → List·Memᴰ e h → e .met .clock ≢ d .met .clock → does e ≡ 0) → count h ≡ does d
+  one-does : {r w : Router} {h : List NotedTick} {d : NotedTick} → Run 1 r h w → List·Memᴰ d h → ((e : NotedTick) → List·Memᴰ e h → e .met .clock ≢ d .met .clock → does e ≡ 0) → count h ≡ does d
   unfolding sentOn withdrawnOn
   one-does {d = d} R m f =
       let M = moment 1 R m in
-      let in-run : (e : Done) → List·Memᴰ e (M .before ++ (d ∷ M .later)) → e .met .clock ≢ d .met .clock → does e ≡ 0 = λ e k. f e (subst (List·Memᴰ e) (sym (M .is)) k) in
+      let in-run : (e : NotedTick) → List·Memᴰ e (M .before ++ (d ∷ M .later)) → e .met .clock ≢ d .met .clock → does e ≡ 0 = λ e k. f e (subst (List·Memᴰ e) (sym (M .parts)) k) in
       let a = none-counted (M .before) (λ e k. in-run e (Memᴰ·append-left (d ∷ M .later) k) (later-differs (e .met .clock) (d .met .clock) (over 1 (M .past) k))) in
       let b = none-counted (M .later) (λ e k. in-run e (Memᴰ·append-right (M .before) (List·Memᴰ·tail k)) (λ q. later-differs (d .met .clock) (e .met .clock) (after-tick 1 d (M .future) k) (sym q))) in
-      let s = ap count (M .is) ∙ count-append (M .before) (d ∷ M .later) in
+      let s = ap count (M .parts) ∙ count-append (M .before) (d ∷ M .later) in
       omega arith
 
 -- A tick at another clock does nothing with a packet whose deadline is the clock of its arrival.
-idle-else : (e : Done) (p : ℕ) (x : Packet) → Lawful 1 e p x → x .deadline ≡ x .arrived → e .met .clock ≢ x .arrived → does p x e ≡ 0
+idle-else : (e : NotedTick) (p : ℕ) (x : Packet) → Permitted 1 e p x → x .deadline ≡ x .arrived → e .met .clock ≢ x .arrived → does p x e ≡ 0
 unfolding counted
 idle-else e p x L q n = go (isSent x (e .report .grant p)) refl (decLt 0 (times x (e .report .withdrawn p)))
   where
@@ -66,7 +66,7 @@ idle-else e p x L q n = go (isSent x (e .report .grant p)) refl (decLt 0 (times 
 -- ---- the claim
 
 -- Once the clock has passed its deadline, nothing is left of a packet.
-none-left : {h : List Done} {w : Router} {p : ℕ} {x : Packet} → Account 1 h w x p → T (leZ (sucℤ (x .deadline)) (w .clock)) → leftOn p x (w .place) ≡ 0
+none-left : {h : List NotedTick} {w : Router} {p : ℕ} {x : Packet} → Account 1 h w x p → T (leZ (sucℤ (x .deadline)) (w .clock)) → leftOn p x (w .place) ≡ 0
 none-left {w = w} {p = p} {x = x} C l = go (decLt 0 (leftOn p x (w .place)))
   where
     go : Dec (0 < leftOn p x (w .place)) → leftOn p x (w .place) ≡ 0
@@ -78,7 +78,7 @@ unfolding NoThird
 no-third t ht ks P x a q d m n p hp =
     let C = after-calls t ht ks P .accounts .account x a p hp in
     let R = agreed-after t ht ks P .run in
-    let done = one-does p x R m (λ e k l. idle-else e p x (C .lawful e k) q (λ z. l (z ∙ sym n))) in
+    let done = one-does p x R m (λ e k l. idle-else e p x (C .permitted e k) q (λ z. l (z ∙ sym n))) in
     let o = C .once in
     let z = none-left C (subst (λ (z : ℤ). T (leZ (sucℤ z) (routerAfter 1 (start t) ks .clock))) (n ∙ sym q) (over 1 R m)) in
-    record { one = omega arith; bytes = λ s. C .lawful d m .sent s .3 }
+    record { one = omega arith; bytes = λ s. C .permitted d m .sent s .3 }

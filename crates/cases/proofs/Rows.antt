@@ -19,22 +19,22 @@ use Rattle.rules.specs.Calls.{refusal, wholeStep, Proper}
 use Rattle.rules.specs.Demand3.{byteStep}
 use Rattle.rules.proofs.Booleans.{and-left, and-right, cons-first, cons-rest}
 use Rattle.rules.proofs.Masks.{has-zero}
-use Rattle.rules.proofs.Relation.{Here, Rel}
+use Rattle.rules.proofs.Relation.{SlotShows, Rel}
 use Rattle.rules.proofs.Board8Laws.{lawful8}
 use Rattle.rules.proofs.Agreement.{Agree}
 use Rattle.cases.specs.Shorthand.{nines, lent}
-use Rattle.cases.specs.Rows.{Waiting, Seen, Row, expected, listed, before, outcome, arrived, whole, sameBytes, fateOf, waitingOnBytes, onBytes, beforeWhole, arrivedWhole, onWhole}
+use Rattle.cases.specs.Rows.{Candidate, Seen, Row, expected, listed, before, outcome, arrived, whole, sameBytes, fateOf, candidateOnBytes, onBytes, beforeWhole, arrivedWhole, onWhole}
 use Rattle.cases.specs.Table.{AllMeet}
 use Rattle.cases.proofs.Proper.{isProper, proper}
 use Rattle.cases.proofs.Reached.{met, ended, arrived-related}
 
-listed-same : (f g : ℕ → Option Waiting) (n : ℕ) → ((i : ℕ) → i < n → f i ≡ g i) → listed f n ≡ listed g n
+listed-same : (f g : ℕ → Option Candidate) (n : ℕ) → ((i : ℕ) → i < n → f i ≡ g i) → listed f n ≡ listed g n
 unfolding listed
 listed-same f g zero e = refl
 listed-same f g (suc n) e = rw (listed-same f g n (λ i l. e i (omega arith)), e n (omega arith))
 
 -- The packet in slot i by what the fields read: the clock t, and the slot's mask m, time v, deadline D and bytes k; m′ is its mask after the tick, and `out` went out on port 0.
-abbrev by-fields : ℕ → ℕ → List ℕ → ℕ → ℕ → ℕ → ℕ → List ℕ → Option Waiting
+abbrev by-fields : ℕ → ℕ → List ℕ → ℕ → ℕ → ℕ → ℕ → List ℕ → Option Candidate
 by-fields t i out m v D m′ k =
     let o = offset (bits 1) v t in
     cond (has m 0)
@@ -52,7 +52,7 @@ ports-left none = 0
 ports-left (some x) = x .left
 
 -- The same by what its place holds, before the ports are served and at the end.
-unfoldable pub by-places : ℕ → ℕ → List ℕ → Option Held → Option Held → Option Waiting
+unfoldable pub by-places : ℕ → ℕ → List ℕ → Option Held → Option Held → Option Candidate
 by-places t i out none v = none
 by-places t i out (some x) v = by-fields t i out (x .left) (cut (bits 1) (x .packet .time)) (cut (bits 1) (x .packet .deadline)) (ports-left v) (packetBytes 1 (x .packet))
 
@@ -62,7 +62,7 @@ by-router r =
     record {
       clock = pos (cut (bits 1) (beforeWhole r .clock));
       reply = o .reply;
-      waiting = listed (λ i. by-places (cut (bits 1) (arrivedWhole r .clock)) i (packet (o .reply .outgoing) 0) (arrivedWhole r .place i) (o .router .place i)) 256;
+      candidates = listed (λ i. by-places (cut (bits 1) (arrivedWhole r .clock)) i (packet (o .reply .outgoing) 0) (arrivedWhole r .place i) (o .router .place i)) 256;
     }
 
 module _ (r : Row) (h : r .from < 256) (P : Proper 1 (start (r .from)) (r .earlier ++ (lent (r .tick) ∷ []))) (e : refusal 1 (lent (r .tick)) ≡ 0) where
@@ -75,27 +75,27 @@ module _ (r : Row) (h : r .from < 256) (P : Proper 1 (start (r .from)) (r .earli
   done = ended (r .from) h (r .earlier) (r .tick) (nines 100) (nines 20) P
 
   -- A slot's mask is what its place has left.
-  mask-left : (s : Store) (i : ℕ) (v : Option Held) → Here board8 lawful8 s i v → board8 .get (s .state) (mask i) ≡ ports-left v
+  mask-left : (s : Store) (i : ℕ) (v : Option Held) → SlotShows board8 lawful8 s i v → board8 .get (s .state) (mask i) ≡ ports-left v
   unfolding ports-left
   mask-left s i none S = S
   mask-left s i (some x) S = S .left
 
   -- Field by field.
-  slot-seen : (i : ℕ) → i < 256 → waitingOnBytes r i ≡ by-places (cut (bits 1) (arrivedWhole r .clock)) i (packet (outcome r .reply .outgoing) 0) (arrivedWhole r .place i) (end .place i)
-  unfolding waitingOnBytes before outcome arrived beforeWhole arrivedWhole byteStep Bytes.onTimeKey Bytes.earlyKey by-places
+  slot-seen : (i : ℕ) → i < 256 → candidateOnBytes r i ≡ by-places (cut (bits 1) (arrivedWhole r .clock)) i (packet (outcome r .reply .outgoing) 0) (arrivedWhole r .place i) (end .place i)
+  unfolding candidateOnBytes before outcome arrived beforeWhole arrivedWhole byteStep Bytes.onTimeKey Bytes.earlyKey by-places
   slot-seen i l = go (arrivedWhole r .place i) (R .place i l)
     where
       R : Rel board8 lawful8 (arrived r) (arrivedWhole r)
       R = arrived-related (r .from) h (r .earlier) (r .tick) (nines 100) (nines 20) P e
 
-      go : (v : Option Held) → Here board8 lawful8 (arrived r) i v → waitingOnBytes r i ≡ by-places (cut (bits 1) (arrivedWhole r .clock)) i (packet (outcome r .reply .outgoing) 0) v (end .place i)
+      go : (v : Option Held) → SlotShows board8 lawful8 (arrived r) i v → candidateOnBytes r i ≡ by-places (cut (bits 1) (arrivedWhole r .clock)) i (packet (outcome r .reply .outgoing) 0) v (end .place i)
       go none H = rw (H, has-zero 0 (omega arith))
-      go (some x) H = rw (R .settled .same clock refl (omega arith), H .left, H .time, H .deadline, H .bytes, mask-left (outcome r .store) i (end .place i) (done .rel .place i l))
+      go (some x) H = rw (R .settings .reads clock refl (omega arith), H .left, H .time, H .deadline, H .bytes, mask-left (outcome r .store) i (end .place i) (done .rel .place i l))
 
   -- All that is seen.
   bytes-seen : onBytes r ≡ by-router r
   unfolding onBytes by-router before outcome beforeWhole byteStep
-  bytes-seen = rw (listed-same (waitingOnBytes r) _ 256 slot-seen, met (r .from) h (r .earlier) (r .tick) (nines 100) (nines 20) P .rel .settled .same clock refl (omega arith), done .reply)
+  bytes-seen = rw (listed-same (candidateOnBytes r) _ 256 slot-seen, met (r .from) h (r .earlier) (r .tick) (nines 100) (nines 20) P .rel .settings .reads clock refl (omega arith), done .reply)
 
 -- ---- a table of rows, by tests computed over the whole of it
 

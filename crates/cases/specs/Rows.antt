@@ -14,7 +14,7 @@ use Rattle.rules.specs.Tick.{Outcome}
 use Rattle.rules.specs.Questions as Entry
 use Rattle.rules.specs.Questions.{fresh}
 use Rattle.rules.specs.Whole as Whole
-use Rattle.rules.specs.Whole.{Router, Packet, TickCall, Report, start, waiting, packetBytes}
+use Rattle.rules.specs.Whole.{Router, Packet, TickCall, Report, start, toServe, packetBytes}
 use Rattle.rules.specs.Calls.{Call, routerAfter, wholeStep}
 use Rattle.rules.specs.Account.{isSent, times}
 use Rattle.rules.specs.Demand3.{storeAfter}
@@ -29,7 +29,7 @@ pub data Fate : Type 0 where
   left : Fate
 
 -- A packet that waits for port 0 once the arrivals are stored: its slot, the bytes that it goes out with (its deadline is the second), its key, on time or early, and its fate in this tick.
-pub record Waiting : Type 0 where
+pub record Candidate : Type 0 where
   pub slot : ℕ
   pub bytes : List ℕ
   pub onTimeKey : Option ℤ
@@ -40,7 +40,7 @@ pub record Waiting : Type 0 where
 pub record Seen : Type 0 where
   pub clock : ℤ
   pub reply : Reply
-  pub waiting : List Waiting
+  pub candidates : List Candidate
 
 -- A router fresh at the clock reading `from`, the calls up to t = 240, the tick, and what has to be seen of it.
 pub record Row : Type 0 where
@@ -48,17 +48,17 @@ pub record Row : Type 0 where
   pub earlier : List Call
   pub tick : TickCall
   pub reply : Reply
-  pub waiting : List Waiting
+  pub candidates : List Candidate
 
 unfoldable pub expected : Row → Seen
-expected r = record { clock = pos 240; reply = r .reply; waiting = r .waiting }
+expected r = record { clock = pos 240; reply = r .reply; candidates = r .candidates }
 
 -- What f gives for the slots below n, in order.
-unfoldable pub listed : (ℕ → Option Waiting) → ℕ → List Waiting
+unfoldable pub listed : (ℕ → Option Candidate) → ℕ → List Candidate
 listed f zero = []
 listed f (suc n) = listed f n ++ go (f n)
   where
-    go : Option Waiting → List Waiting
+    go : Option Candidate → List Candidate
     go none = []
     go (some x) = x ∷ []
 
@@ -91,8 +91,8 @@ sameBytes (x ∷ xs) (y ∷ ys) = eqb x y && sameBytes xs ys
 unfoldable pub fateOf : Bool → Bool → Fate
 fateOf stays goesOut = cond stays left (cond goesOut sent withdrawn)
 
-unfoldable pub waitingOnBytes : Row → ℕ → Option Waiting
-waitingOnBytes r i =
+unfoldable pub candidateOnBytes : Row → ℕ → Option Candidate
+candidateOnBytes r i =
     let s = arrived r .state in
     let k = packet (arrived r .memory) i in
     let o = outcome r in
@@ -106,7 +106,7 @@ waitingOnBytes r i =
     })) none
 
 unfoldable pub onBytes : Row → Seen
-onBytes r = record { clock = pos (board8 .get (before r .state) clock); reply = outcome r .reply; waiting = listed (waitingOnBytes r) 256 }
+onBytes r = record { clock = pos (board8 .get (before r .state) clock); reply = outcome r .reply; candidates = listed (candidateOnBytes r) 256 }
 
 -- ---- a row at the router that never turns over
 
@@ -114,19 +114,19 @@ unfoldable pub beforeWhole : Row → Router
 beforeWhole r = routerAfter 1 (start (r .from)) (r .earlier)
 
 unfoldable pub arrivedWhole : Row → Router
-arrivedWhole r = Whole.arrivals 1 5 (r .tick) (beforeWhole r)
+arrivedWhole r = Whole.arrived 1 5 (r .tick) (beforeWhole r)
 
 -- By what the tick reports.
 unfoldable pub reported : Report → Packet → Fate
 reported o x = cond (isSent x (o .grant 0)) sent (cond (ltb 0 (times x (o .withdrawn 0))) withdrawn left)
 
-unfoldable pub waitingOnWhole : Row → ℕ → Option Waiting
-waitingOnWhole r i = go (waiting (arrivedWhole r .place i) 0)
+unfoldable pub candidateOnWhole : Row → ℕ → Option Candidate
+candidateOnWhole r i = go (toServe (arrivedWhole r .place i) 0)
   where
     T : ℤ
     T = beforeWhole r .clock
 
-    go : Option Packet → Option Waiting
+    go : Option Packet → Option Candidate
     go none = none
     go (some x) = some (record {
       slot = i;
@@ -137,4 +137,4 @@ waitingOnWhole r i = go (waiting (arrivedWhole r .place i) 0)
     })
 
 unfoldable pub onWhole : Row → Seen
-onWhole r = record { clock = beforeWhole r .clock; reply = wholeStep 1 (beforeWhole r) (lent (r .tick)) .reply; waiting = listed (waitingOnWhole r) 256 }
+onWhole r = record { clock = beforeWhole r .clock; reply = wholeStep 1 (beforeWhole r) (lent (r .tick)) .reply; candidates = listed (candidateOnWhole r) 256 }

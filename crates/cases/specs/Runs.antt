@@ -4,7 +4,7 @@ use mathlib.Core.Path.{_≡_}
 use mathlib.Core.List.{List, [], _∷_}
 use lib.ListN.{replicate}
 use lib.IntN.{pos, negsuc}
-use Rattle.rules.specs.Areas.{Reply, quiet, noPacket}
+use Rattle.rules.specs.Areas.{Reply, numberReply, noPacket}
 use Rattle.rules.specs.Board.{free}
 use Rattle.rules.specs.Board8.{board8}
 use Rattle.rules.specs.Questions.{fresh}
@@ -15,7 +15,7 @@ use Rattle.cases.specs.Shorthand.{connect, packetWith, five, nines, tick
 
 -- Replies to four control writes, and to a tick refused.
 abbrev pub connected : List Reply → List Reply
-connected rs = quiet 0 ∷ quiet 0 ∷ quiet 0 ∷ quiet 0 ∷ rs
+connected rs = numberReply 0 ∷ numberReply 0 ∷ numberReply 0 ∷ numberReply 0 ∷ rs
 
 abbrev pub turnedAway : ℕ → Reply
 turnedAway n = record { number = n; outgoing = nines 100; answers = nines 20 }
@@ -45,8 +45,8 @@ turning =
 unfoldable pub turningReplies : List Reply
 turningReplies =
     connected (connected (connected
-    (quiet 0 ∷ quiet 0
-    ∷ quiet 4 ∷ quiet 5
+    (numberReply 0 ∷ numberReply 0
+    ∷ numberReply 4 ∷ numberReply 5
     -- The early packet doesn't pass best-effort on port 3.
     ∷ ticked empty (0 ∷ 0 ∷ 2 ∷ 2 ∷ 0 ∷ 1 ∷ 0 ∷ 6 ∷ 1 ∷ 7 ∷ replicate 10 0)
     ∷ turnedAway 3

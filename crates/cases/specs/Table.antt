@@ -12,10 +12,10 @@ use Rattle.rules.specs.Board8.{board8}
 use Rattle.rules.specs.Questions.{fresh}
 use Rattle.rules.specs.Whole.{Packet, start, packetBytes}
 use Rattle.rules.specs.Calls.{Call, control, Proper}
-use Rattle.rules.specs.Account.{Done, Accepted, isSent, times}
+use Rattle.rules.specs.Account.{NotedTick, Accepted, isSent, times}
 use Rattle.rules.specs.Demand3.{history}
 use Rattle.cases.specs.Shorthand.{connect, packetWith, five, ticking, lent, ticked}
-use Rattle.cases.specs.Rows.{Fate, sent, withdrawn, left, Waiting, Row, expected, onBytes, onWhole}
+use Rattle.cases.specs.Rows.{Fate, sent, withdrawn, left, Candidate, Row, expected, onBytes, onWhole}
 
 -- ---- what is seen
 
@@ -40,10 +40,10 @@ abbrev pub refused : ℕ → List ℕ
 refused q = q ∷ replicate 4 0
 
 -- The packet k in a slot, its key, and its fate.
-abbrev pub isOnTime : ℕ → List ℕ → ℕ → Fate → Waiting
+abbrev pub isOnTime : ℕ → List ℕ → ℕ → Fate → Candidate
 isOnTime i k key f = record { slot = i; bytes = k; onTimeKey = some (pos key); earlyKey = none; fate = f }
 
-abbrev pub isEarly : ℕ → List ℕ → ℕ → Fate → Waiting
+abbrev pub isEarly : ℕ → List ℕ → ℕ → Fate → Candidate
 isEarly i k key f = record { slot = i; bytes = k; onTimeKey = none; earlyKey = some (pos key); fate = f }
 
 -- ---- one packet
@@ -63,8 +63,8 @@ pub record Arriving : Type 0 where
   pub time : ℕ
   pub u : ℤ
 
-abbrev pub case : Arriving → Reply → List Waiting → Row
-case a reply waiting = record { from = 240; earlier = opened (a .d) (a .horizon); tick = ticking 1 0 (packetWith 1 5 (a .time) ++ replicate 80 0) (a .u ∷ []); reply = reply; waiting = waiting }
+abbrev pub case : Arriving → Reply → List Candidate → Row
+case a reply candidates = record { from = 240; earlier = opened (a .d) (a .horizon); tick = ticking 1 0 (packetWith 1 5 (a .time) ++ replicate 80 0) (a .u ∷ []); reply = reply; candidates = candidates }
 
 -- "time 80: early, key 96. Sent at horizon 96, not at 95."
 unfoldable pub horizon96 : Row
@@ -114,7 +114,7 @@ time240-withdrawn = record {
   earlier = opened 0 0;
   tick = ticking 3 0 (packetWith 1 5 240 ++ packetWith 101 5 240 ++ replicate 60 0) (pos 240 ∷ pos 240 ∷ []);
   reply = says 1 (as33 240) (1 ∷ 1 ∷ replicate 3 0) 1;
-  waiting = isOnTime 0 (as33 240) 0 sent ∷ isOnTime 1 (other33 240) 0 withdrawn ∷ [];
+  candidates = isOnTime 0 (as33 240) 0 sent ∷ isOnTime 1 (other33 240) 0 withdrawn ∷ [];
 }
 
 -- Ten packets arrive, at t = 239 for slots 0 to 4 and at t = 240 for slots 5 to 9. Those of slots 2 and 9 are for port 0, of connections 7 (d = 10, goes out as 35) and 5 (d = 40);
@@ -126,8 +126,8 @@ pub record Tied : Type 0 where
   pub time9 : ℕ
   pub u9 : ℤ
 
-abbrev pub tie : Tied → Reply → List Waiting → Row
-tie a reply waiting =
+abbrev pub tie : Tied → Reply → List Candidate → Row
+tie a reply candidates =
     let k = packetWith 1 6 250 in
     let v = pos 250 in
     record {
@@ -135,7 +135,7 @@ tie a reply waiting =
       earlier = connect 6 34 40 2 (connect 7 35 10 1 (opened 40 (a .horizon))) ++ (lent (ticking 31 0 (five k k (packetWith 1 7 (a .time2)) k k) (v ∷ v ∷ a .u2 ∷ v ∷ v ∷ [])) ∷ []);
       tick = ticking 31 0 (five k k k k (packetWith 101 5 (a .time9))) (v ∷ v ∷ v ∷ v ∷ a .u9 ∷ []);
       reply = reply;
-      waiting = waiting;
+      candidates = candidates;
     }
 
 -- The packet of slot 2 as it goes out.
@@ -167,14 +167,14 @@ AllMeet (r ∷ rs) = Meets r × AllMeet rs
 -- ---- no third
 
 -- "sent in this tick or withdrawn in it": on port p the tick d does one of the two with x, once, if the mask of x has p, and neither if it hasn't. What is sent goes out with its bytes.
-pub record SentOrWithdrawn (d : Done) (x : Packet) (p : ℕ) : Type 0 where
+pub record SentOrWithdrawn (d : NotedTick) (x : Packet) (p : ℕ) : Type 0 where
   pub one : counted (isSent x (d .report .grant p)) + times x (d .report .withdrawn p) ≡ counted (has (x .mask) p)
   pub bytes : isSent x (d .report .grant p) ≡ true → packet (d .outgoing) p ≡ packetBytes 1 x
 
 -- In every run from a fresh router: a packet that arrives in its deadline tick, as one of time 240 and d = 0 at t = 240, and is accepted, is sent or withdrawn in that tick.
 unfoldable pub NoThird : Type 0
 NoThird = (t : ℕ) → t < 256 → (ks : List Call) → Proper 1 (start t) ks → let h = history board8 (fresh board8 t) (start t) ks in
-    (x : Packet) → Accepted h x → x .deadline ≡ x .arrived → (d : Done) → List·Memᴰ d h → d .met .clock ≡ x .arrived → (p : ℕ) → p < 5 → SentOrWithdrawn d x p
+    (x : Packet) → Accepted h x → x .deadline ≡ x .arrived → (d : NotedTick) → List·Memᴰ d h → d .met .clock ≡ x .arrived → (p : ℕ) → p < 5 → SentOrWithdrawn d x p
 
 -- Every case marked P.
 unfoldable pub Cases : Type 0

@@ -8,7 +8,7 @@ ghost use Rattle.rules.specs.Board.{clock};
 ghost use Rattle.rules.specs.Board8.{board8};
 ghost use Rattle.rules.specs.Tick.{grant};
 ghost use Rattle.choose.specs.Ranks as Ranks;
-ghost use Rattle.choose.specs.Grants.{the};
+ghost use Rattle.choose.specs.Grants.{grantOf};
 ghost use Rattle.choose.specs.Empty.{EmptyFrom};
 use area::Field;
 use area::SlotAddress;
@@ -102,7 +102,7 @@ pub fn scan(state: &[u8], end: usize) -> [u32; 5]
 // Who has a port, by its least rank.
 pub fn choose(state: &[u8], waiting: u8, port: u8, best: u32) -> Grant
     requires { ⌜ (port < 5) × (best ≡ Ranks.best (now state) 256 port) ⌝ }
-    ensures { λ r. ⌜ the r ≡ grant board8 (now (state .entry)) waiting port ⌝ }
+    ensures { λ r. ⌜ grantOf r ≡ grant board8 (now (state .entry)) waiting port ⌝ }
 {
     let slot = SlotAddress((best % 256) as u8);
     if best < EARLY {

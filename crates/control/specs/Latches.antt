@@ -8,8 +8,8 @@ use Rattle.rules.specs.Board8.{board8}
 use Rattle.control.specs.declared.Latch.{Latch}
 
 -- The latch that a state holds.
-abbrev pub held : List ℕ → Latch
-held s = record { outgoing = board8 .get s (latch 0); delay = board8 .get s (latch 1); routes = board8 .get s (latch 2); horizons = board8 .get s (latch 3) }
+abbrev pub latchOf : List ℕ → Latch
+latchOf s = record { outgoing = board8 .get s (latch 0); delay = board8 .get s (latch 1); routes = board8 .get s (latch 2); horizons = board8 .get s (latch 3) }
 
 -- A latch with the byte v stored in register r; the commits, 3 and 5, leave it.
 abbrev pub stored : Latch → ℕ → ℕ → Latch

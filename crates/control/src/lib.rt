@@ -5,7 +5,7 @@ ghost use Rattle.rules.specs.Areas.{fits};
 ghost use Rattle.rules.specs.Board.{latch};
 ghost use Rattle.rules.specs.Board8.{board8};
 ghost use Rattle.rules.specs.Control.{commitEntry, commitHorizon, written};
-ghost use Rattle.control.specs.Latches.{held, stored, kept};
+ghost use Rattle.control.specs.Latches.{latchOf, stored, kept};
 use area::ConnectionId;
 use area::Field;
 
@@ -20,7 +20,7 @@ pub struct Latch {
 impl Latch {
     // The latch that the state holds.
     pub fn read(state: &[u8]) -> Latch
-        ensures { λ r. ⌜ r ≡ held (now (state .entry)) ⌝ }
+        ensures { λ r. ⌜ r ≡ latchOf (now (state .entry)) ⌝ }
     {
         let outgoing = area::get(state, Field::Latch(0));
         let delay = area::get(state, Field::Latch(1));

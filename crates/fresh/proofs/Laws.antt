@@ -8,7 +8,7 @@ use lib.ListN.{length, set, replicate, drop-of-length-le}
 use lib.Seq.{sets, sets-eq}
 use borrow.Author.Tests.{eq-eqb, ne-eqb}
 use Rattle.rules.specs.Indices.{topFirst}
-use Rattle.rules.specs.Areas.{Store, quiet, digits}
+use Rattle.rules.specs.Areas.{Store, numberReply, digits}
 use Rattle.rules.specs.Board8.{fresh8, board8}
 use Rattle.rules.specs.Tick.{Outcome}
 use Rattle.rules.specs.Questions.{full, fresh, makeFresh}
@@ -55,17 +55,17 @@ sets-all d s e = sets-eq s d 0 (omega arith) ∙ rw (drop-of-length-le d {i = 0 
 -- ---- the outcome, by its number n
 
 module _ (r : Store) (t n : ℕ) where
-  pub refused-state : length (r .state) ≢ 1804 → n ≡ 1 → _≡_ {A = Outcome} (record { reply = quiet n; store = r }) (makeFresh board8 r t)
+  pub refused-state : length (r .state) ≢ 1804 → n ≡ 1 → _≡_ {A = Outcome} (record { reply = numberReply n; store = r }) (makeFresh board8 r t)
   unfolding makeFresh full
   refused-state h q = rw (ne-eqb (length (r .state)) 1804 h, q)
 
-  pub refused-memory : length (r .state) ≡ 1804 → length (r .memory) ≢ 5120 → n ≡ 1 → _≡_ {A = Outcome} (record { reply = quiet n; store = r }) (makeFresh board8 r t)
+  pub refused-memory : length (r .state) ≡ 1804 → length (r .memory) ≢ 5120 → n ≡ 1 → _≡_ {A = Outcome} (record { reply = numberReply n; store = r }) (makeFresh board8 r t)
   unfolding makeFresh full
   refused-memory e h q = rw (eq-eqb (length (r .state)) 1804 e, ne-eqb (length (r .memory)) 5120 h, q)
 
   -- The bytes b are copied to the state, then the slots, and the memory is cleared.
   pub accepted : (b s s′ m : List ℕ) → b ≡ board8 .freshState t → s ≡ sets (r .state) 0 b → s′ ≡ emptied 256 s → m ≡ replicate (length (r .memory)) 0
-      → length (r .state) ≡ 1804 → length (r .memory) ≡ 5120 → n ≡ 0 → _≡_ {A = Outcome} (record { reply = quiet n; store = record { state = s′; memory = m } }) (makeFresh board8 r t)
+      → length (r .state) ≡ 1804 → length (r .memory) ≡ 5120 → n ≡ 0 → _≡_ {A = Outcome} (record { reply = numberReply n; store = record { state = s′; memory = m } }) (makeFresh board8 r t)
   unfolding makeFresh full fresh
   accepted b s s′ m eb es es′ em e f q =
       let p : s ≡ board8 .freshState t = es ∙ rw eb (sets-all (r .state) (board8 .freshState t) (e ∙ sym (length-fresh t))) in

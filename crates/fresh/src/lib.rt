@@ -1,7 +1,7 @@
 // The router's sizes, the numbers of refusals, and a fresh router.
 ghost use mathlib.Core.Path.{_≡_};
 ghost use lib.ListN.{length, replicate};
-ghost use Rattle.rules.specs.Areas.{quiet};
+ghost use Rattle.rules.specs.Areas.{numberReply};
 ghost use Rattle.rules.specs.Board8.{board8};
 ghost use Rattle.rules.specs.Tick.{Outcome};
 ghost use Rattle.rules.specs.Questions.{makeFresh};
@@ -106,7 +106,7 @@ fn clear(area: &mut [u8])
 // Makes state and memory those of a fresh router.
 pub fn make_fresh(state: &mut [u8], memory: &mut [u8], clock: u8) -> u8
     ensures { λ r. ⌜ _≡_ {A = Outcome}
-        (record { reply = quiet r; store = record { state = now (state .exit); memory = now (memory .exit) } })
+        (record { reply = numberReply r; store = record { state = now (state .exit); memory = now (memory .exit) } })
         (makeFresh board8 (record { state = now (state .entry); memory = now (memory .entry) }) clock) ⌝ }
 {
     if state.len() != Router::STATE {

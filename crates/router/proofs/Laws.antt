@@ -7,7 +7,7 @@ use mathlib.Core.Logic.{_≢_}
 use native.Mathlib.Omega.{arith}
 use lib.Dec.{leb}
 use borrow.Author.Tests.{ne-eqb, leb-true}
-use Rattle.rules.specs.Areas.{Store, quiet, fits}
+use Rattle.rules.specs.Areas.{Store, numberReply, fits}
 use Rattle.rules.specs.Board8.{board8}
 use Rattle.rules.specs.Control.{written}
 use Rattle.rules.specs.Tick.{Outcome, ticked}
@@ -28,11 +28,11 @@ module _ (r : Store) (register v : ℕ) where
       go false false false e f q = absurd (omega arith)
 
   module _ (n : ℕ) (e : n ≡ controlRefusal board8 r register v) where
-    pub refused : n ≢ 0 → _≡_ {A = Outcome} (record { reply = quiet n; store = r }) (controlWrite board8 r register v)
+    pub refused : n ≢ 0 → _≡_ {A = Outcome} (record { reply = numberReply n; store = r }) (controlWrite board8 r register v)
     unfolding controlWrite
     refused h = rw (← e, ne-eqb n 0 h)
 
-    pub accepted : n ≡ 0 → (s : List ℕ) → s ≡ written board8 register v (r .state) → _≡_ {A = Outcome} (record { reply = quiet n; store = record { state = s; memory = r .memory } }) (controlWrite board8 r register v)
+    pub accepted : n ≡ 0 → (s : List ℕ) → s ≡ written board8 register v (r .state) → _≡_ {A = Outcome} (record { reply = numberReply n; store = record { state = s; memory = r .memory } }) (controlWrite board8 r register v)
     unfolding controlWrite
     accepted h s q = rw (← e, q, h)
 

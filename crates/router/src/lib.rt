@@ -1,7 +1,7 @@
 // The router's entries: what the board firmware and the display software call.
 ghost use mathlib.Core.Path.{_≡_};
 ghost use lib.ListN.{take, drop};
-ghost use Rattle.rules.specs.Areas.{quiet, display};
+ghost use Rattle.rules.specs.Areas.{numberReply, display};
 ghost use Rattle.rules.specs.Board8.{board8};
 ghost use Rattle.rules.specs.Tick.{Outcome};
 ghost use Rattle.rules.specs.Questions.{makeFresh, controlWrite, tick};
@@ -11,7 +11,7 @@ ghost use Rattle.display.specs.Start.{displayStart};
 #[no_mangle]
 pub extern "C" fn router_fresh(state: &mut [u8], memory: &mut [u8], clock: u8) -> u8
     ensures { λ r. ⌜ _≡_ {A = Outcome}
-        (record { reply = quiet r; store = record { state = now (state .exit); memory = now (memory .exit) } })
+        (record { reply = numberReply r; store = record { state = now (state .exit); memory = now (memory .exit) } })
         (makeFresh board8 (record { state = now (state .entry); memory = now (memory .entry) }) clock) ⌝ }
 {
     fresh::make_fresh(state, memory, clock)
@@ -21,7 +21,7 @@ pub extern "C" fn router_fresh(state: &mut [u8], memory: &mut [u8], clock: u8) -
 #[no_mangle]
 pub extern "C" fn router_control(state: &mut [u8], memory: &[u8], register: u8, value: u8) -> u8
     ensures { λ r. ⌜ _≡_ {A = Outcome}
-        (record { reply = quiet r; store = record { state = now (state .exit); memory = now (memory .entry) } })
+        (record { reply = numberReply r; store = record { state = now (state .exit); memory = now (memory .entry) } })
         (controlWrite board8 (record { state = now (state .entry); memory = now (memory .entry) }) register value) ⌝ }
 {
     let number = questions::of_control(state, memory, register, value).number();

@@ -10,21 +10,21 @@ use lib.ListN.{length}
 use lib.Dec.{eqb}
 use lib.IntN.{ℤ}
 use borrow.Author.Tests.{eq-eqb, ne-eqb, eqb-true, eqb-false, le-ltb}
-use Rattle.rules.specs.Account.{same, isSent, times, isLeft, leftOn, Kept}
+use Rattle.rules.specs.Account.{samePacket, isSent, times, isLeft, leftOn, Kept}
 use Rattle.rules.specs.Areas.{packet, has, Grant, nobody, bestEffort, onTime, early}
 use Rattle.rules.specs.Indices.{count, counted}
-use Rattle.rules.specs.Whole.{Packet, Held, Router, TickCall, Arrival, absent, refused, accepted, placed, admitted, waiting, lose, sent, served, isDue, due, withdrawn, settle, emptied, meets, arrivals}
+use Rattle.rules.specs.Whole.{Packet, Held, Router, TickCall, Arrival, absent, refused, accepted, placed, admitted, toServe, lose, sent, served, isDue, due, withdrawn, remaining, emptied, meets, arrived}
 use Rattle.rules.proofs.IndexLaws.{count-only, counted-false}
 use Rattle.rules.proofs.Masks.{has-without-same, has-without-other, has-zero}
 use Rattle.rules.proofs.WholeLaws.{AllHeld, tally, tally-put, fresh-held, loses, lost-in, first-place, first-empty, emptied-at}
-use Rattle.rules.proofs.Grants.{Rests, grant-rests, waiting-held}
-use Rattle.rules.proofs.Good.{Good, Input, after, accepted-made, arrivals-kept, serving, chosen, serving-by, served-fit}
+use Rattle.rules.proofs.Grants.{Rests, grant-rests, toServe-held}
+use Rattle.rules.proofs.Good.{Good, Input, after, accepted-passed, arrivals-kept, serving, chosen, serving-by, served-window}
 
 -- The arrival is x's, and of a packet with the test m.
 unfoldable pub taken : (Packet → Bool) → Packet → Arrival → Bool
 taken m x absent = false
 taken m x (refused q) = false
-taken m x (accepted y) = m y && same x y
+taken m x (accepted y) = m y && samePacket x y
 
 abbrev pub for-port : ℕ → Packet → Bool
 for-port p y = has (y .mask) p
@@ -35,14 +35,14 @@ any y = true
 -- ---- what a tick does to the places with a test
 
 -- An arrival adds the packet that it brings: it takes an empty place.
-admitted-tally : (t : Option Held → Bool) (m : Packet → Bool) (x : Packet) → t none ≡ false → ((y : Packet) → t (some (fresh-held y)) ≡ (m y && same x y)) → (a : Arrival) (w : Router) → Kept (w .place) (w .free)
+admitted-tally : (t : Option Held → Bool) (m : Packet → Bool) (x : Packet) → t none ≡ false → ((y : Packet) → t (some (fresh-held y)) ≡ (m y && samePacket x y)) → (a : Arrival) (w : Router) → Kept (w .place) (w .free)
     → ((y : Packet) → a ≡ accepted y → eqb (length (w .free)) 0 ≡ false) → tally t (admitted a w .place) ≡ tally t (w .place) + counted (taken m x a)
 unfolding admitted placed taken counted
 admitted-tally t m x e₀ e₁ absent w K r = omega arith
 admitted-tally t m x e₀ e₁ (refused q) w K r = omega arith
 admitted-tally t m x e₀ e₁ (accepted y) w K r = go (w .free) refl
   where
-    go : (l : List ℕ) → w .free ≡ l → tally t (placed l y w .place) ≡ tally t (w .place) + counted (m y && same x y)
+    go : (l : List ℕ) → w .free ≡ l → tally t (placed l y w .place) ≡ tally t (w .place) + counted (m y && samePacket x y)
     go [] e = absurd (eqb-false (length (w .free)) 0 (r y refl) (ap length e))
     go (i ∷ l) e =
         let K′ = subst (Kept (w .place)) e K in
@@ -55,35 +55,35 @@ admitted-tally t m x e₀ e₁ (accepted y) w K r = go (w .free) refl
 
 module _ (p : ℕ) (x : Packet) where
   abbrev left : Option Held → Bool
-  left v = isLeft x (waiting v p)
+  left v = isLeft x (toServe v p)
 
   -- x is left there with its port.
-  left-some : (h : Held) → left (some h) ≡ (has (h .left) p && same x (h .packet))
-  unfolding isLeft waiting
+  left-some : (h : Held) → left (some h) ≡ (has (h .left) p && samePacket x (h .packet))
+  unfolding isLeft toServe
   left-some h = go (has (h .left) p)
     where
-      go : (t : Bool) → isLeft x (cond t (some (h .packet)) none) ≡ (t && same x (h .packet))
+      go : (t : Bool) → isLeft x (cond t (some (h .packet)) none) ≡ (t && samePacket x (h .packet))
       go true = refl
       go false = refl
 
   left-none : left none ≡ false
-  unfolding isLeft waiting
+  unfolding isLeft toServe
   left-none = refl
 
   module _ (hp : p < 5) where
     -- Losing port q takes x from port p only where q is p and the packet that waits is x.
-    lose-left : (q : ℕ) → q < 5 → (v : Option Held) (y : Packet) → waiting v q ≡ some y → ((h : Held) → v ≡ some h → h .left ≤ 31)
-        → counted (left (lose q v)) + counted (eqb q p && same x y) ≡ counted (left v)
+    lose-left : (q : ℕ) → q < 5 → (v : Option Held) (y : Packet) → toServe v q ≡ some y → ((h : Held) → v ≡ some h → h .left ≤ 31)
+        → counted (left (lose q v)) + counted (eqb q p && samePacket x y) ≡ counted (left v)
     unfolding lose counted
-    lose-left q hq v y e m = let (h, ev, ey, t) = waiting-held v q y e in go h ev ey t (ℕ-discrete p q)
+    lose-left q hq v y e m = let (h, ev, ey, t) = toServe-held v q y e in go h ev ey t (ℕ-discrete p q)
       where
-        go : (h : Held) → v ≡ some h → h .packet ≡ y → has (h .left) q ≡ true → Dec (p ≡ q) → counted (left (lose q v)) + counted (eqb q p && same x y) ≡ counted (left v)
+        go : (h : Held) → v ≡ some h → h .packet ≡ y → has (h .left) q ≡ true → Dec (p ≡ q) → counted (left (lose q v)) + counted (eqb q p && samePacket x y) ≡ counted (left v)
         go h ev ey t (yes d) = rw (ev, ← ey, left-some (loses q h), left-some h, d, has-without-same (h .left) q (m h ev) hq, t, eq-eqb q q refl) (omega arith)
         go h ev ey t (no d) = rw (ev, ← ey, left-some (loses q h), left-some h, has-without-other (h .left) q p (m h ev) hq hp d, ne-eqb q p (λ k. d (sym k))) (omega arith)
 
     -- Where a packet y waits for port q, that port is lost once.
-    lost-left : (q : ℕ) → q < 5 → (w : Router) → AllHeld (λ h. h .left ≤ 31) (w .place) → (i : ℕ) (y : Packet) → i < 256 → waiting (w .place i) q ≡ some y
-        → leftOn p x (lost-in i q w .place) + counted (eqb q p && same x y) ≡ leftOn p x (w .place)
+    lost-left : (q : ℕ) → q < 5 → (w : Router) → AllHeld (λ h. h .left ≤ 31) (w .place) → (i : ℕ) (y : Packet) → i < 256 → toServe (w .place i) q ≡ some y
+        → leftOn p x (lost-in i q w .place) + counted (eqb q p && samePacket x y) ≡ leftOn p x (w .place)
     unfolding leftOn tally
     lost-left q hq w m i y l e = let h = tally-put left (w .place) i (lose q (w .place i)) l in let k = lose-left q hq (w .place i) y e (m i l) in omega arith
 
@@ -103,13 +103,13 @@ module _ (p : ℕ) (x : Packet) where
     times-append (y ∷ a) b = let h = times-append a b in omega arith
 
     -- What is left of a place, and what is withdrawn from it, is what it had.
-    settle-left : (T : ℤ) (v : Option Held) → counted (left (settle T v)) + times x (due T (waiting v p)) ≡ counted (left v)
-    unfolding settle due times waiting isLeft counted
-    settle-left T none = refl
-    settle-left T (some h) = go (has (h .left) p) refl (isDue T (h .packet)) refl (eqb (h .left) 0) refl
+    remaining-left : (T : ℤ) (v : Option Held) → counted (left (remaining T v)) + times x (due T (toServe v p)) ≡ counted (left v)
+    unfolding remaining due times toServe isLeft counted
+    remaining-left T none = refl
+    remaining-left T (some h) = go (has (h .left) p) refl (isDue T (h .packet)) refl (eqb (h .left) 0) refl
       where
         go : (s : Bool) → has (h .left) p ≡ s → (t : Bool) → isDue T (h .packet) ≡ t → (z : Bool) → eqb (h .left) 0 ≡ z
-            → counted (isLeft x (waiting (cond (isDue T (h .packet) || z) none (some h)) p)) + times x (due T (cond s (some (h .packet)) none)) ≡ counted (isLeft x (cond s (some (h .packet)) none))
+            → counted (isLeft x (toServe (cond (isDue T (h .packet) || z) none (some h)) p)) + times x (due T (cond s (some (h .packet)) none)) ≡ counted (isLeft x (cond s (some (h .packet)) none))
         go true es true et z ez = rw et (omega arith)
         go true es false et true ez = let q : has (h .left) p ≡ false = ap (λ (n : ℕ). has n p) (eqb-true (h .left) 0 ez) ∙ has-zero p hp in absurd (true≢false (sym es ∙ q))
         go true es false et false ez = rw (et, es) (omega arith)
@@ -123,12 +123,12 @@ module _ (p : ℕ) (x : Packet) where
     emptied-left T zero w l = omega arith
     emptied-left T (suc n) w l =
         let f = emptied T n w .place in
-        let e : f n ≡ w .place n = emptied-at T n w n ∙ ap (λ (t : Bool). cond t (settle T (w .place n)) (w .place n)) (le-ltb n n (omega arith)) in
+        let e : f n ≡ w .place n = emptied-at T n w n ∙ ap (λ (t : Bool). cond t (remaining T (w .place n)) (w .place n)) (le-ltb n n (omega arith)) in
         let a = emptied-left T n w (omega arith) in
-        let b = tally-put left f n (settle T (f n)) (omega arith) in
-        let d = settle-left T (f n) in
-        let g = times-append (withdrawn T (w .place) p n) (due T (waiting (w .place n) p)) in
-        let k : times x (due T (waiting (f n) p)) ≡ times x (due T (waiting (w .place n) p)) = ap (λ v. times x (due T (waiting v p))) e in
+        let b = tally-put left f n (remaining T (f n)) (omega arith) in
+        let d = remaining-left T (f n) in
+        let g = times-append (withdrawn T (w .place) p n) (due T (toServe (w .place n) p)) in
+        let k : times x (due T (toServe (f n) p)) ≡ times x (due T (toServe (w .place n) p)) = ap (λ v. times x (due T (toServe v p))) e in
         omega arith
 
 -- ---- the places that hold x
@@ -136,7 +136,7 @@ module _ (p : ℕ) (x : Packet) where
 -- The place holds x.
 unfoldable pub holds : Packet → Option Held → Bool
 holds x none = false
-holds x (some h) = same x (h .packet)
+holds x (some h) = samePacket x (h .packet)
 
 module _ (x : Packet) where
   -- A packet less a port is the same packet.
@@ -150,12 +150,12 @@ module _ (x : Packet) where
   lose-in q i w l = let h = tally-put (holds x) (w .place) i (lose q (w .place i)) l in let e = ap counted (holds-lose q (w .place i)) in omega arith
 
   -- A place that settles keeps its packet or holds none.
-  settle-in : (T : ℤ) (v : Option Held) → counted (holds x (settle T v)) ≤ counted (holds x v)
-  unfolding settle holds counted
-  settle-in T none = omega arith
-  settle-in T (some h) = go (isDue T (h .packet) || eqb (h .left) 0)
+  remaining-in : (T : ℤ) (v : Option Held) → counted (holds x (remaining T v)) ≤ counted (holds x v)
+  unfolding remaining holds counted
+  remaining-in T none = omega arith
+  remaining-in T (some h) = go (isDue T (h .packet) || eqb (h .left) 0)
     where
-      go : (b : Bool) → counted (holds x (cond b none (some h))) ≤ counted (same x (h .packet))
+      go : (b : Bool) → counted (holds x (cond b none (some h))) ≤ counted (samePacket x (h .packet))
       go true = omega arith
       go false = omega arith
 
@@ -166,8 +166,8 @@ module _ (x : Packet) where
   emptied-in T (suc n) w l =
       let f = emptied T n w .place in
       let a = emptied-in T n w (omega arith) in
-      let b = tally-put (holds x) f n (settle T (f n)) (omega arith) in
-      let d = settle-in T (f n) in
+      let b = tally-put (holds x) f n (remaining T (f n)) (omega arith) in
+      let d = remaining-in T (f n) in
       omega arith
 
 -- ---- the whole tick
@@ -183,12 +183,12 @@ module _ (c : ℕ) (w : Router) (call : TickCall) (G : Good c w) (I : Input c (w
   brought m x n = count n (λ q. taken m x (meets c call (now q) q))
 
   -- The arrivals add what they bring.
-  arrivals-tally : (t : Option Held → Bool) (m : Packet → Bool) (x : Packet) → t none ≡ false → ((y : Packet) → t (some (fresh-held y)) ≡ (m y && same x y)) → (n : ℕ) → tally t (now n .place) ≡ tally t (w .place) + brought m x n
-  unfolding arrivals count
+  arrivals-tally : (t : Option Held → Bool) (m : Packet → Bool) (x : Packet) → t none ≡ false → ((y : Packet) → t (some (fresh-held y)) ≡ (m y && samePacket x y)) → (n : ℕ) → tally t (now n .place) ≡ tally t (w .place) + brought m x n
+  unfolding arrived count
   arrivals-tally t m x e₀ e₁ zero = omega arith
   arrivals-tally t m x e₀ e₁ (suc n) =
       let a = arrivals-tally t m x e₀ e₁ n in
-      let b = admitted-tally t m x e₀ e₁ (meets c call (now n) n) (now n) (arrivals-kept c w call G I n) (λ y e. accepted-made c w call n y e .room) in
+      let b = admitted-tally t m x e₀ e₁ (meets c call (now n) n) (now n) (arrivals-kept c w call G I n) (λ y e. accepted-passed c w call n y e .room) in
       omega arith
 
   arrivals-in : (x : Packet) → tally (holds x) (now 5 .place) ≡ tally (holds x) (w .place) + brought any x 5
@@ -218,7 +218,7 @@ module _ (c : ℕ) (w : Router) (call : TickCall) (G : Good c w) (I : Input c (w
     served-left zero l = omega arith
     served-left (suc n) l =
         let a = served-left n (omega arith) in
-        let d = sent-left p x hp n (omega arith) (chosen c w call n) (then n) (grant-rests (then n) (call .bestEffort) n) (λ i m h e. served-fit c w call G I n (omega arith) i m h e .left) in
+        let d = sent-left p x hp n (omega arith) (chosen c w call n) (then n) (grant-rests (then n) (call .bestEffort) n) (λ i m h e. served-window c w call G I n (omega arith) i m h e .left) in
         omega arith
 
     -- Left after, sent and withdrawn are left before and accepted.

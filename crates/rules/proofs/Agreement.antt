@@ -8,8 +8,8 @@ use native.Mathlib.Omega.{arith}
 use lib.ListN.{take, length-replicate}
 use lib.Dec.{leb, eqb}
 use borrow.Author.Tests.{eqb-true, leb-true}
-use Rattle.rules.specs.Account.{Done, Kept, stored}
-use Rattle.rules.specs.Areas.{Store, Reply, quiet as silent, bits, fits, elem, distinct}
+use Rattle.rules.specs.Account.{NotedTick, Kept, stored}
+use Rattle.rules.specs.Areas.{Store, Reply, numberReply, bits, fits, elem, distinct}
 use Rattle.rules.specs.Board.{Board, clock, horizon, latch, free, idle, mask, outgoing, delay, routes}
 use Rattle.rules.specs.Calls.{Step, Call, control, tick, refusal, refuse, accept, wholeStep, routerAfter, wholeReplies, ByteCall, TrueTimes, Proper}
 use Rattle.rules.specs.Control.{written}
@@ -19,18 +19,18 @@ use Rattle.rules.specs.Questions as Entry
 use Rattle.rules.specs.Questions.{sound, controlRefusal, tickRefusal, fresh, stack}
 use Rattle.rules.specs.Tick as Tick
 use Rattle.rules.specs.Tick.{Outcome}
-use Rattle.rules.specs.Whole.{Held, Router, TickCall, start, rising, settings, ticked, isHeld}
+use Rattle.rules.specs.Whole.{Held, Router, TickCall, start, rising, written as wholeWritten, ticked, isHeld}
 use Rattle.rules.proofs.BoardLaws.{Laws, freshField}
 use Rattle.rules.proofs.Booleans.{asked, none-some}
 use Rattle.rules.proofs.IndexLaws.{all-at}
 use Rattle.rules.proofs.Good.{Busy, Good}
-use Rattle.rules.proofs.Runs.{settings-good, next-good, input-of, Ticking, Run, rest, quiet, ticks}
+use Rattle.rules.proofs.Runs.{written-good, next-good, input-of, Ticking, Run, rest, quiet, ticks}
 use Rattle.rules.proofs.RunPrompt.{accounts}
 use Rattle.rules.proofs.TimeLaws.{cut-pos, half-pos}
 use Rattle.rules.proofs.StateLaws.{topFirst-same}
-use Rattle.rules.proofs.Relation.{shown, on-settings, Here, Rel, rel-free, with-state}
+use Rattle.rules.proofs.Relation.{shown, on-settings, SlotShows, Rel, rel-free, with-state}
 use Rattle.rules.proofs.Refine.{rel-sound, rel-full, tick-rel, reply-same, sends-same}
-use Rattle.rules.proofs.RefineControl.{write-rel}
+use Rattle.rules.proofs.RefineControl.{written-rel}
 
 -- ---- the router at its start is good
 
@@ -55,7 +55,7 @@ unfolding start
 start-good c t = record {
   settings = record { entry = λ i l. record { delay = half-pos c; mask = omega arith }; horizon = λ p l. half-pos c; latch = record { delay = half-pos c; mask = omega arith }; ports = omega arith };
   kept = start-kept;
-  fit = λ i l h e. none-some e;
+  window = λ i l h e. none-some e;
   busy = λ i l h e. none-some e;
 }
 
@@ -75,9 +75,9 @@ module _ (B : Board) (L : Laws B) where
   pub fresh-rel : (t : ℕ) → t < 2 ^ bits c → Rel B L (fresh B t) (start t)
   unfolding fresh start stack
   fresh-rel t h = record {
-    settled = record {
+    settings = record {
       sized = L .length-fresh t;
-      same = λ f e v. L .get-fresh t f v ∙ on-settings (freshField t) (shown c (start t)) (sym (cut-pos (bits c) t h)) (λ p l. refl) (λ q l. refl) (λ i l. (refl, refl, refl)) f e v;
+      reads = λ f e v. L .get-fresh t f v ∙ on-settings (freshField t) (shown c (start t)) (sym (cut-pos (bits c) t h)) (λ p l. refl) (λ q l. refl) (λ i l. (refl, refl, refl)) f e v;
     };
     whole = length-replicate {A = ℕ} 5120 0;
     place = λ i l. L .get-fresh t (mask i) l;
@@ -94,7 +94,7 @@ module _ (B : Board) (L : Laws B) where
     pub rel : Rel B L (o .store) (q .router)
     pub good : Good c (q .router)
     pub reply : o .reply ≡ q .reply
-    pub runs : {h : List Done} {z : Router} → Run c (q .router) h z → Run c w (noted w k (o .reply .outgoing) (q .report) h) z
+    pub runs : {h : List NotedTick} {z : Router} → Run c (q .router) h z → Run c w (noted w k (o .reply .outgoing) (q .report) h) z
 
   module _ {r : Store} {w : Router} (R : Rel B L r w) (G : Good c w) where
     -- The first two questions are passed, so the others alone decide.
@@ -118,20 +118,20 @@ module _ (B : Board) (L : Laws B) where
 
     -- An accepted call by the lemma of its kind, a refused one changes nothing in either router.
     pub agree : (k : Call) → ByteCall c k → TrueTimes c w k → Agree w k (byteStep B r k) (wholeStep c w k)
-    unfolding byteStep Entry.controlWrite Entry.tick wholeStep accept refuse noted settings
+    unfolding byteStep Entry.controlWrite Entry.tick wholeStep accept refuse noted wholeWritten
     agree (control register v) hb ht = rw (control-number register v) (decided (eqb (refusal c (control register v)) 0) accepted (record { rel = R; good = G; reply = refl; runs = λ S. S }))
       where
-        accepted : eqb (refusal c (control register v)) 0 ≡ true → Agree w (control register v) (record { reply = silent 0; store = with-state B L r (written B register v (r .state)) }) (accept c w (control register v))
+        accepted : eqb (refusal c (control register v)) 0 ≡ true → Agree w (control register v) (record { reply = numberReply 0; store = with-state B L r (written B register v (r .state)) }) (accept c w (control register v))
         accepted e =
             let (p, q) = control-passed register v (eqb-true (refusal c (control register v)) 0 e) in
             let l = leb-true register 5 p in
-            record { rel = write-rel B L R (G .kept) register v l q; good = settings-good c w G register v l q; reply = refl; runs = λ S. quiet refl refl S }
+            record { rel = written-rel B L R (G .kept) register v l q; good = written-good c w G register v l q; reply = refl; runs = λ S. quiet refl refl S }
     agree (tick k out ans) hb ht = rw (tick-number k out ans) (decided (eqb (refusal c (tick k out ans)) 0) accepted (record { rel = R; good = G; reply = refl; runs = λ S. S }))
       where
         t : Outcome
         t = Tick.ticked B r (k .arriving) (k .bestEffort) (k .arrivals)
 
-        d : Done
+        d : NotedTick
         d = record { met = w; call = k; report = ticked c w k .report; outgoing = t .reply .outgoing }
 
         accepted : eqb (refusal c (tick k out ans)) 0 ≡ true → Agree w (tick k out ans) t (accept c w (tick k out ans))
@@ -159,21 +159,21 @@ module _ (B : Board) (L : Laws B) where
       record { rel = b .rel; good = b .good; replies = ap₂ (λ (x : Reply) (l : List Reply). x ∷ l) (a .reply) (b .replies); run = a .runs (b .run) }
 
   -- A slot shows its place, which has a port left.
-  place-shown : (r : Store) (i : ℕ) (v : Option Held) → ((x : Held) → v ≡ some x → Busy x) → Here B L r i v → PlaceShown B r i v
+  place-shown : (r : Store) (i : ℕ) (v : Option Held) → ((x : Held) → v ≡ some x → Busy x) → SlotShows B L r i v → PlaceShown B r i v
   place-shown r i none b h = h
   place-shown r i (some x) b h = (h, b x refl)
 
   -- The relation is what is claimed of state and memory.
   rel-shown : {r : Store} {w : Router} → Rel B L r w → Good c w → Shown B r w
   rel-shown {r} {w} R G =
-      let S = R .settled in
+      let S = R .settings in
       record {
-        clock = S .same clock refl (omega arith);
-        horizon = λ p l. S .same (horizon p) refl l;
-        latch = λ q l. S .same (latch q) refl l;
-        identifier = λ i l. S .same (outgoing i) refl l;
-        delay = λ i l. S .same (delay i) refl l;
-        routes = λ i l. S .same (routes i) refl l;
+        clock = S .reads clock refl (omega arith);
+        horizon = λ p l. S .reads (horizon p) refl l;
+        latch = λ q l. S .reads (latch q) refl l;
+        identifier = λ i l. S .reads (outgoing i) refl l;
+        delay = λ i l. S .reads (delay i) refl l;
+        routes = λ i l. S .reads (routes i) refl l;
         place = λ i l. place-shown r i (w .place i) (G .busy i l) (R .place i l);
         free = let e = rel-free B L R in let k = G .kept .all in omega arith;
         stack = R .stack;

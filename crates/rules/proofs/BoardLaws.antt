@@ -38,8 +38,8 @@ index (routes i) = i
 abbrev pub alike : Field → Field → Bool
 alike f g = eqb (kind f) (kind g)
 
-abbrev pub same : Field → Field → Bool
-same f g = alike f g && eqb (index f) (index g)
+abbrev pub sameField : Field → Field → Bool
+sameField f g = alike f g && eqb (index f) (index g)
 
 -- How many fields a kind has: one clock and free count, five horizons, four registers, 256 of any other.
 abbrev pub extent : Field → ℕ
@@ -71,7 +71,7 @@ pub record Laws (B : Board) : Type 0 where
   pub some-bytes : 0 < B .clockBytes
   pub few-bytes : B .clockBytes < 20
   pub length-put : (s : List ℕ) (f : Field) (v : ℕ) → length (B .put s f v) ≡ length s
-  pub get-put : (s : List ℕ) (f : Field) (v : ℕ) (g : Field) → length s ≡ B .stateLength → Valid f → Valid g → B .get (B .put s f v) g ≡ cond (same f g) v (B .get s g)
+  pub get-put : (s : List ℕ) (f : Field) (v : ℕ) (g : Field) → length s ≡ B .stateLength → Valid f → Valid g → B .get (B .put s f v) g ≡ cond (sameField f g) v (B .get s g)
   pub get-lt : (s : List ℕ) (f : Field) → Bytes s → length s ≡ B .stateLength → Valid f → B .get s f < 256 ^ width (B .clockBytes) f
   pub length-fresh : (t : ℕ) → length (B .freshState t) ≡ B .stateLength
   pub get-fresh : (t : ℕ) (f : Field) → Valid f → B .get (B .freshState t) f ≡ freshField t f

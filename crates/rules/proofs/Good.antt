@@ -13,16 +13,16 @@ use borrow.Author.Tests.{eqb-false}
 use Rattle.rules.specs.Account.{Kept}
 use Rattle.rules.specs.Areas.{byte, bits, half, stamp, packet, payload, has, Grant}
 use Rattle.rules.specs.Clock.{cut}
-use Rattle.rules.specs.Whole.{Packet, Held, Entry, Router, TickCall, withPlaces, advanced, accepted, grant, lose, served, isDue, emptied, meets, arrivals, isHeld}
+use Rattle.rules.specs.Whole.{Packet, Held, Entry, Router, TickCall, withPlaces, advanced, accepted, grant, lose, served, isDue, emptied, meets, arrived, isHeld}
 use Rattle.rules.proofs.Booleans.{some-inj}
 use Rattle.rules.proofs.Integers.{orders, diff-nat, suc-nat, not-lt, not-le}
 use Rattle.rules.proofs.AreaLaws.{length-packet, length-payload}
 use Rattle.rules.proofs.Masks.{without-le}
-use Rattle.rules.proofs.WholeLaws.{AllHeld, fresh-held, loses, put-all, lose-all, stored-in, lost-in, admitted-by, sent-by, Made, arrival-made, kept-take, kept-same, held-put, held-lose, emptied-kept, emptied-frame, emptied-held}
+use Rattle.rules.proofs.WholeLaws.{AllHeld, fresh-held, loses, put-all, lose-all, stored-in, lost-in, admitted-by, sent-by, Passed, arrival-passed, kept-take, kept-same, held-put, held-lose, emptied-kept, emptied-frame, emptied-held}
 use Rattle.rules.proofs.Grants.{grant-rests}
 
 -- The times of a packet at the clock t: deadline by a delay in range, not past, and the time less than n ahead.
-pub record Fit (c : ℕ) (t : ℤ) (n : ℕ) (x : Packet) : Type 0 where
+pub record InWindow (c : ℕ) (t : ℤ) (n : ℕ) (x : Packet) : Type 0 where
   pub delay : ℕ
   pub sum : x .deadline ≡ x .time +ℤ pos delay
   pub small : delay < half c
@@ -32,8 +32,8 @@ pub record Fit (c : ℕ) (t : ℤ) (n : ℕ) (x : Packet) : Type 0 where
   pub size : length (x .payload) ≡ 20 - (1 + c)
 
 -- A held packet fits, and its ports are five at most.
-pub record HeldFit (c : ℕ) (t : ℤ) (n : ℕ) (h : Held) : Type 0 where
-  pub fit : Fit c t n (h .packet)
+pub record HeldInWindow (c : ℕ) (t : ℤ) (n : ℕ) (h : Held) : Type 0 where
+  pub window : InWindow c t n (h .packet)
   pub left : h .left ≤ 31
 
 -- A port is left.
@@ -41,7 +41,7 @@ abbrev pub Busy : Held → Type 0
 Busy h = 0 < h .left
 
 -- An entry's delay and mask are in range.
-pub record EntryFits (c : ℕ) (e : Entry) : Type 0 where
+pub record EntryInRange (c : ℕ) (e : Entry) : Type 0 where
   pub delay : e .delay < half c
   pub mask : e .mask ≤ 31
 
@@ -50,26 +50,26 @@ abbrev pub latched : Router → Entry
 latched w = record { identifier = w .latch 0; delay = w .latch 1; mask = w .latch 2 }
 
 -- Every setting is in range.
-pub record Settings (c : ℕ) (w : Router) : Type 0 where
-  pub entry : (i : ℕ) → i < 256 → EntryFits c (w .entry i)
+pub record SettingsInRange (c : ℕ) (w : Router) : Type 0 where
+  pub entry : (i : ℕ) → i < 256 → EntryInRange c (w .entry i)
   pub horizon : (p : ℕ) → p < 5 → w .horizon p < half c
-  pub latch : EntryFits c (latched w)
+  pub latch : EntryInRange c (latched w)
   pub ports : w .latch 3 ≤ 31
 
 -- What every call keeps.
 pub record Good (c : ℕ) (w : Router) : Type 0 where
-  pub settings : Settings c w
+  pub settings : SettingsInRange c w
   pub kept : Kept (w .place) (w .free)
-  pub fit : AllHeld (HeldFit c (w .clock) (half c - 1)) (w .place)
+  pub window : AllHeld (HeldInWindow c (w .clock) (half c - 1)) (w .place)
   pub busy : AllHeld Busy (w .place)
 
 -- The bound ahead may grow.
-pub fit-more : (c : ℕ) (t : ℤ) (n m : ℕ) (x : Packet) → n ≤ m → Fit c t n x → Fit c t m x
-fit-more c t n m x l F = record { delay = F .delay; sum = F .sum; small = F .small; due = F .due; soon = let s = F .soon in omega (arith, orders); arrived = F .arrived; size = F .size }
+pub window-more : (c : ℕ) (t : ℤ) (n m : ℕ) (x : Packet) → n ≤ m → InWindow c t n x → InWindow c t m x
+window-more c t n m x l F = record { delay = F .delay; sum = F .sum; small = F .small; due = F .due; soon = let s = F .soon in omega (arith, orders); arrived = F .arrived; size = F .size }
 
 -- A mask less a port is no larger.
-lose-fit : (c : ℕ) (t : ℤ) (n p : ℕ) → p < 5 → (h : Held) → HeldFit c t n h → HeldFit c t n (loses p h)
-lose-fit c t n p l h f = record { fit = f .fit; left = without-le (h .left) p (f .left) l }
+lose-window : (c : ℕ) (t : ℤ) (n p : ℕ) → p < 5 → (h : Held) → HeldInWindow c t n h → HeldInWindow c t n (loses p h)
+lose-window c t n p l h f = record { window = f .window; left = without-le (h .left) p (f .left) l }
 
 -- ---- through a tick
 
@@ -84,11 +84,11 @@ pub record Input (c : ℕ) (t : ℤ) (call : TickCall) : Type 0 where
 module _ (c : ℕ) (w : Router) (call : TickCall) where
   -- The router after the arrivals below p.
   abbrev pub after : ℕ → Router
-  after p = arrivals c p call w
+  after p = arrived c p call w
 
   -- What holds at first, and with each packet that is accepted, holds after the arrivals below n.
   after-by : (P : Router → Type 0) → P w → (n : ℕ) → ((p : ℕ) → p < n → P (after p) → (x : Packet) (i : ℕ) (l : List ℕ) → meets c call (after p) p ≡ accepted x → after p .free ≡ i ∷ l → P (stored-in i l x (after p))) → P (after n)
-  unfolding arrivals
+  unfolding arrived
   after-by P b zero f = b
   after-by P b (suc n) f = let h = after-by P b n (λ p l. f p (omega arith)) in admitted-by P (meets c call (after n) n) (after n) h (f n (omega arith) h)
 
@@ -132,8 +132,8 @@ module _ (c : ℕ) (w : Router) (call : TickCall) where
   clock-at p = ap (λ r. r .clock) (served-frame p)
 
   -- What is accepted has passed the questions at the settings of the tick.
-  pub accepted-made : (p : ℕ) (x : Packet) → meets c call (after p) p ≡ accepted x → Made c (withPlaces w (after p .place) (after p .free)) (call .arriving) p (packet (call .arrivals) p) (call .times p) x
-  accepted-made p x e = subst (λ r. Made c r (call .arriving) p (packet (call .arrivals) p) (call .times p) x) (arrivals-frame p) (arrival-made c (after p) (call .arriving) p (packet (call .arrivals) p) (call .times p) x e)
+  pub accepted-passed : (p : ℕ) (x : Packet) → meets c call (after p) p ≡ accepted x → Passed c (withPlaces w (after p .place) (after p .free)) (call .arriving) p (packet (call .arrivals) p) (call .times p) x
+  accepted-passed p x e = subst (λ r. Passed c r (call .arriving) p (packet (call .arrivals) p) (call .times p) x) (arrivals-frame p) (arrival-passed c (after p) (call .arriving) p (packet (call .arrivals) p) (call .times p) x e)
 
   -- ---- what holds of every held packet
 
@@ -174,17 +174,17 @@ module _ (c : ℕ) (w : Router) (call : TickCall) (G : Good c w) (I : Input c (w
   arrivals-kept p = after-by c w call (λ r. Kept (r .place) (r .free)) (G .kept) p (λ q m K x i l e f. kept-take (subst (Kept (at q .place)) f K) (fresh-held x))
 
   -- By the questions that it passed, its delay and mask from an entry in range.
-  accepted-fit : (p : ℕ) → p < 5 → (x : Packet) → meets c call (at p) p ≡ accepted x → HeldFit c (w .clock) (half c) (fresh-held x)
-  accepted-fit p l x e =
-      let m = accepted-made c w call p x e in
+  accepted-window : (p : ℕ) → p < 5 → (x : Packet) → meets c call (at p) p ≡ accepted x → HeldInWindow c (w .clock) (half c) (fresh-held x)
+  accepted-window p l x e =
+      let m = accepted-passed c w call p x e in
       let i = byte (packet (call .arrivals) p) 0 in
-      subst (λ y. HeldFit c (w .clock) (half c) (fresh-held y)) (m .is) (record {
-        fit = record {
+      subst (λ y. HeldInWindow c (w .clock) (half c) (fresh-held y)) (m .packet) (record {
+        window = record {
           delay = w .entry i .delay;
           sum = refl;
           small = G .settings .entry i (I .identifier p l) .delay;
           due = not-lt (call .times p +ℤ pos (w .entry i .delay)) (w .clock) (m .in-time);
-          soon = I .soon p l (m .here);
+          soon = I .soon p l (m .brought);
           arrived = omega (arith, orders);
           size = length-payload c (packet (call .arrivals) p) (length-packet (call .arrivals) p (let e = I .whole in omega arith));
         };
@@ -194,14 +194,14 @@ module _ (c : ℕ) (w : Router) (call : TickCall) (G : Good c w) (I : Input c (w
   -- Its entry is open.
   accepted-busy : (p : ℕ) (x : Packet) → meets c call (at p) p ≡ accepted x → Busy (fresh-held x)
   accepted-busy p x e =
-      let m = accepted-made c w call p x e in
-      subst (λ y. Busy (fresh-held y)) (m .is) (let n = eqb-false (w .entry (byte (packet (call .arrivals) p) 0) .mask) 0 (m .open-entry) in omega arith)
+      let m = accepted-passed c w call p x e in
+      subst (λ y. Busy (fresh-held y)) (m .packet) (let n = eqb-false (w .entry (byte (packet (call .arrivals) p) 0) .mask) 0 (m .open-entry) in omega arith)
 
   -- What they store fits, as what was stored does.
-  arrivals-fit : (p : ℕ) → p ≤ 5 → AllHeld (HeldFit c (w .clock) (half c)) (at p .place)
-  arrivals-fit p l = after-all c w call (HeldFit c (w .clock) (half c)) (λ i m h e.
-      let f = G .fit i m h e in
-      record { fit = fit-more c (w .clock) (half c - 1) (half c) (h .packet) (omega arith) (f .fit); left = f .left }) p (λ q m. accepted-fit q (omega arith))
+  arrivals-window : (p : ℕ) → p ≤ 5 → AllHeld (HeldInWindow c (w .clock) (half c)) (at p .place)
+  arrivals-window p l = after-all c w call (HeldInWindow c (w .clock) (half c)) (λ i m h e.
+      let f = G .window i m h e in
+      record { window = window-more c (w .clock) (half c - 1) (half c) (h .packet) (omega arith) (f .window); left = f .left }) p (λ q m. accepted-window q (omega arith))
 
   -- What they store has a port left.
   pub arrivals-busy : (p : ℕ) → AllHeld Busy (at p .place)
@@ -212,31 +212,31 @@ module _ (c : ℕ) (w : Router) (call : TickCall) (G : Good c w) (I : Input c (w
   served-kept p = serving-by c w call (λ r. Kept (r .place) (r .free)) (arrivals-kept 5) p (λ q m r K i l. kept-same (held-put (r .place) i (lose q (r .place i)) (held-lose q (r .place i))) K)
 
   -- What is stored still fits.
-  pub served-fit : (p : ℕ) → p ≤ 5 → AllHeld (HeldFit c (w .clock) (half c)) (then p .place)
-  served-fit = served-all c w call (HeldFit c (w .clock) (half c)) (λ p l h f. lose-fit c (w .clock) (half c) p l h f) (arrivals-fit 5 (omega arith))
+  pub served-window : (p : ℕ) → p ≤ 5 → AllHeld (HeldInWindow c (w .clock) (half c)) (then p .place)
+  served-window = served-all c w call (HeldInWindow c (w .clock) (half c)) (λ p l h f. lose-window c (w .clock) (half c) p l h f) (arrivals-window 5 (omega arith))
 
   -- And so it does at the clock of that router.
-  pub fit-then : (p : ℕ) → p ≤ 5 → AllHeld (HeldFit c (then p .clock) (half c)) (then p .place)
-  fit-then p l = subst (λ (t : ℤ). AllHeld (HeldFit c t (half c)) (then p .place)) (sym (clock-at c w call p)) (served-fit p l)
+  pub window-then : (p : ℕ) → p ≤ 5 → AllHeld (HeldInWindow c (then p .clock) (half c)) (then p .place)
+  window-then p l = subst (λ (t : ℤ). AllHeld (HeldInWindow c t (half c)) (then p .place)) (sym (clock-at c w call p)) (served-window p l)
 
   -- The clock that the arrivals meet is the one met.
   pub input-then : (p : ℕ) → Input c (at p .clock) call
   input-then p = subst (λ r. Input c (r .clock) call) (sym (arrivals-frame c w call p)) I
 
   -- What is still held was not due, so its deadline is after the clock; its time is one less ahead.
-  ended-fit : AllHeld (HeldFit c (sucℤ (w .clock)) (half c - 1)) (last .place)
-  ended-fit i l h e =
+  ended-window : AllHeld (HeldInWindow c (sucℤ (w .clock)) (half c - 1)) (last .place)
+  ended-window i l h e =
       let (p, q, s) = emptied-held (then 5 .clock) (then 5) i l h e in
-      let f = served-fit 5 (omega arith) i l h p in
+      let f = served-window 5 (omega arith) i l h p in
       record {
-        fit = record {
-          delay = f .fit .delay;
-          sum = f .fit .sum;
-          small = f .fit .small;
-          due = not-due (w .clock) (h .packet) (subst (λ (t : ℤ). isDue t (h .packet) ≡ false) (clock-at c w call 5) q) (f .fit .due);
-          soon = let s = f .fit .soon in omega (arith, orders, diff-nat (h .packet .time) (w .clock), diff-nat (h .packet .time) (sucℤ (w .clock)), suc-nat (w .clock));
-          arrived = let a = f .fit .arrived in omega (arith, orders, suc-nat (w .clock));
-          size = f .fit .size;
+        window = record {
+          delay = f .window .delay;
+          sum = f .window .sum;
+          small = f .window .small;
+          due = not-due (w .clock) (h .packet) (subst (λ (t : ℤ). isDue t (h .packet) ≡ false) (clock-at c w call 5) q) (f .window .due);
+          soon = let s = f .window .soon in omega (arith, orders, diff-nat (h .packet .time) (w .clock), diff-nat (h .packet .time) (sucℤ (w .clock)), suc-nat (w .clock));
+          arrived = let a = f .window .arrived in omega (arith, orders, suc-nat (w .clock));
+          size = f .window .size;
         };
         left = f .left;
       }
@@ -252,6 +252,6 @@ module _ (c : ℕ) (w : Router) (call : TickCall) (G : Good c w) (I : Input c (w
   tick-good = subst (λ r. Good c (advanced r)) (sym (ended-frame c w call)) (record {
     settings = record { entry = G .settings .entry; horizon = G .settings .horizon; latch = record { delay = G .settings .latch .delay; mask = G .settings .latch .mask }; ports = G .settings .ports };
     kept = emptied-kept (then 5 .clock) 256 (then 5) (omega arith) (served-kept 5);
-    fit = ended-fit;
+    window = ended-window;
     busy = ended-busy;
   })

@@ -9,7 +9,7 @@ use lib.IntN.{ℤ, pos, _-ℤ_}
 use lib.Signed.{leZ, ltZ}
 use Rattle.rules.specs.Areas.{has, Grant, nobody, bestEffort, onTime, early}
 use Rattle.rules.specs.Indices.{least}
-use Rattle.rules.specs.Whole.{Packet, Held, Router, waiting, filter, byDeadline, byTime, granted, grant}
+use Rattle.rules.specs.Whole.{Packet, Held, Router, toServe, filter, byDeadline, byTime, granted, grant}
 use Rattle.rules.proofs.Booleans.{some-inj, none-some, is-true, true-is, false-is}
 use Rattle.rules.proofs.IndexLaws.{least-in, least-beats}
 use Rattle.rules.proofs.Integers.{orders, diff-nat, not-lt}
@@ -18,8 +18,8 @@ use Rattle.rules.proofs.Integers.{orders, diff-nat, not-lt}
 abbrev pub Rests : Router → ℕ → Grant (ℕ × Packet) → Type 0
 Rests r p nobody = Unit {0}
 Rests r p bestEffort = Unit {0}
-Rests r p (onTime (i, x)) = (i < 256) × (waiting (r .place i) p ≡ some x) × T (leZ (x .time) (r .clock))
-Rests r p (early (i, x)) = (i < 256) × (waiting (r .place i) p ≡ some x) × T (ltZ (r .clock) (x .time)) × T (leZ (x .time -ℤ r .clock) (pos (r .horizon p)))
+Rests r p (onTime (i, x)) = (i < 256) × (toServe (r .place i) p ≡ some x) × T (leZ (x .time) (r .clock))
+Rests r p (early (i, x)) = (i < 256) × (toServe (r .place i) p ≡ some x) × T (ltZ (r .clock) (x .time)) × T (leZ (x .time -ℤ r .clock) (pos (r .horizon p)))
 
 -- By cases of the test.
 filter-some : (t : Packet → Bool) (v : Option Packet) (x : Packet) → filter t v ≡ some x → (v ≡ some x) × (t x ≡ true)
@@ -51,10 +51,10 @@ module _ (key : Packet → ℤ) where
 
 module _ (r : Router) (b p : ℕ) where
   abbrev readyAt : ℕ → Option Packet
-  readyAt i = filter (λ x. leZ (x .time) (r .clock)) (waiting (r .place i) p)
+  readyAt i = filter (λ x. leZ (x .time) (r .clock)) (toServe (r .place i) p)
 
   abbrev earlyAt : ℕ → Option Packet
-  earlyAt i = filter (λ x. ltZ (r .clock) (x .time)) (waiting (r .place i) p)
+  earlyAt i = filter (λ x. ltZ (r .clock) (x .time)) (toServe (r .place i) p)
 
   abbrev ready : Option (ℕ × Packet)
   ready = least byDeadline readyAt 256
@@ -66,7 +66,7 @@ module _ (r : Router) (b p : ℕ) where
   ready-in : (w : ℕ × Packet) → ready ≡ some w → Rests r p (onTime w)
   ready-in w q =
       let (l, f) = least-in byDeadline readyAt 256 (w .0) (w .1) q in
-      let (u, v) = filter-some (λ x. leZ (x .time) (r .clock)) (waiting (r .place (w .0)) p) (w .1) f in
+      let (u, v) = filter-some (λ x. leZ (x .time) (r .clock)) (toServe (r .place (w .0)) p) (w .1) f in
       (l, u, is-true (leZ (w .1 .time) (r .clock)) v)
 
   -- By the two choices, and what the least is.
@@ -77,7 +77,7 @@ module _ (r : Router) (b p : ℕ) where
       cases : (w : ℕ × Packet) → ahead ≡ some w → (t : Bool) → leZ (w .1 .time -ℤ r .clock) (pos (r .horizon p)) ≡ t → Rests r p (cond t (early w) nobody)
       cases w e true q =
           let (l, f) = least-in byTime earlyAt 256 (w .0) (w .1) e in
-          let (u, v) = filter-some (λ x. ltZ (r .clock) (x .time)) (waiting (r .place (w .0)) p) (w .1) f in
+          let (u, v) = filter-some (λ x. ltZ (r .clock) (x .time)) (toServe (r .place (w .0)) p) (w .1) f in
           (l, u, is-true (ltZ (r .clock) (w .1 .time)) v, is-true (leZ (w .1 .time -ℤ r .clock) (pos (r .horizon p))) q)
       cases w e false q = tt
 
@@ -88,10 +88,10 @@ module _ (r : Router) (b p : ℕ) where
       go none q false (some w) s = cases w s (leZ (w .1 .time -ℤ r .clock) (pos (r .horizon p))) refl
 
   -- A waiting packet whose time has come makes the port send on time one of no later deadline.
-  pub grant-on-time : (i : ℕ) (x : Packet) → i < 256 → waiting (r .place i) p ≡ some x → T (leZ (x .time) (r .clock)) → (j : ℕ) × (y : Packet) × (grant r b p ≡ onTime (j, y)) × T (leZ (y .deadline) (x .deadline))
+  pub grant-on-time : (i : ℕ) (x : Packet) → i < 256 → toServe (r .place i) p ≡ some x → T (leZ (x .time) (r .clock)) → (j : ℕ) × (y : Packet) × (grant r b p ≡ onTime (j, y)) × T (leZ (y .deadline) (x .deadline))
   unfolding grant granted byDeadline
   grant-on-time i x l e h =
-      let (j, y, q, n) = least-beats byDeadline (key-irrefl (λ x. x .deadline)) (key-below (λ x. x .deadline)) readyAt 256 i x l (filter-in (λ x. leZ (x .time) (r .clock)) (waiting (r .place i) p) x e (true-is (leZ (x .time) (r .clock)) h)) in
+      let (j, y, q, n) = least-beats byDeadline (key-irrefl (λ x. x .deadline)) (key-below (λ x. x .deadline)) readyAt 256 i x l (filter-in (λ x. leZ (x .time) (r .clock)) (toServe (r .place i) p) x e (true-is (leZ (x .time) (r .clock)) h)) in
       (j, y, ap (λ v. granted v (has b p) ahead (r .clock) (r .horizon p)) q, not-lt (x .deadline) (y .deadline) n)
 
   -- Best-effort has the port only where it waits.
@@ -109,7 +109,7 @@ module _ (r : Router) (b p : ℕ) where
       go none false q none e = let z : _≡_ {A = ℕ} 0 1 = cc in absurd (omega arith)
       go none false q (some w) e = clash (leZ (w .1 .time -ℤ r .clock) (pos (r .horizon p))) w e
 
-  module _ (none-ready : (i : ℕ) (x : Packet) → i < 256 → waiting (r .place i) p ≡ some x → T (ltZ (r .clock) (x .time))) where
+  module _ (none-ready : (i : ℕ) (x : Packet) → i < 256 → toServe (r .place i) p ≡ some x → T (ltZ (r .clock) (x .time))) where
     -- The least would be on time.
     not-ready : ready ≡ none
     not-ready = go ready refl
@@ -127,19 +127,19 @@ module _ (r : Router) (b p : ℕ) where
     grant-waits e = ap₂ (λ v t. granted v t ahead (r .clock) (r .horizon p)) not-ready e
 
     -- Else a packet within the horizon makes it send early one of no later time.
-    pub grant-early : has b p ≡ false → (i : ℕ) (x : Packet) → i < 256 → waiting (r .place i) p ≡ some x → T (leZ (x .time -ℤ r .clock) (pos (r .horizon p))) → (j : ℕ) × (y : Packet) × (grant r b p ≡ early (j, y)) × T (leZ (y .time) (x .time))
+    pub grant-early : has b p ≡ false → (i : ℕ) (x : Packet) → i < 256 → toServe (r .place i) p ≡ some x → T (leZ (x .time -ℤ r .clock) (pos (r .horizon p))) → (j : ℕ) × (y : Packet) × (grant r b p ≡ early (j, y)) × T (leZ (y .time) (x .time))
     unfolding grant granted byTime
     grant-early f i x l e h =
-        let (j, y, q, n) = least-beats byTime (key-irrefl (λ x. x .time)) (key-below (λ x. x .time)) earlyAt 256 i x l (filter-in (λ x. ltZ (r .clock) (x .time)) (waiting (r .place i) p) x e (true-is (ltZ (r .clock) (x .time)) (none-ready i x l e))) in
+        let (j, y, q, n) = least-beats byTime (key-irrefl (λ x. x .time)) (key-below (λ x. x .time)) earlyAt 256 i x l (filter-in (λ x. ltZ (r .clock) (x .time)) (toServe (r .place i) p) x e (true-is (ltZ (r .clock) (x .time)) (none-ready i x l e))) in
         let le = not-lt (x .time) (y .time) n in
         let near = true-is (leZ (y .time -ℤ r .clock) (pos (r .horizon p))) (omega (arith, orders, diff-nat (x .time) (r .clock), diff-nat (y .time) (r .clock))) in
         (j, y, ap₂ (λ v t. granted v t ahead (r .clock) (r .horizon p)) not-ready f ∙ ap (λ v. granted none false v (r .clock) (r .horizon p)) q ∙ ap (λ (t : Bool). cond t (early (j, y)) nobody) near, le)
 
 -- A waiting packet is held, with the port left.
-pub waiting-held : (v : Option Held) (p : ℕ) (x : Packet) → waiting v p ≡ some x → (h : Held) × (v ≡ some h) × (h .packet ≡ x) × (has (h .left) p ≡ true)
-unfolding waiting
-waiting-held none p x e = none-some e
-waiting-held (some h) p x e = go (has (h .left) p) refl e
+pub toServe-held : (v : Option Held) (p : ℕ) (x : Packet) → toServe v p ≡ some x → (h : Held) × (v ≡ some h) × (h .packet ≡ x) × (has (h .left) p ≡ true)
+unfolding toServe
+toServe-held none p x e = none-some e
+toServe-held (some h) p x e = go (has (h .left) p) refl e
   where
     go : (t : Bool) → has (h .left) p ≡ t → cond t (some (h .packet)) none ≡ some x → (k : Held) × (some h ≡ some k) × (k .packet ≡ x) × (has (k .left) p ≡ true)
     go true q e = (h, refl, some-inj e, q)

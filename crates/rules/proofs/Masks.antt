@@ -34,17 +34,17 @@ module _ (m q p : ℕ) (hm : m ≤ 31) (hq : q < 5) (hp : p < 5) where
 
 module _ (m q : ℕ) (hm : m ≤ 31) (hq : q < 5) where
   -- Its part that needs no second port.
-  front : (leb (without m q) m && not (has (without m q) q)) ≡ true
+  without-rule : (leb (without m q) m && not (has (without m q) q)) ≡ true
   unfolding rule
-  front = and-left (leb (without m q) m && not (has (without m q) q)) (eqb q q || Bool·beq (has (without m q) q) (has m q)) (at m q q hm hq hq)
+  without-rule = and-left (leb (without m q) m && not (has (without m q) q)) (eqb q q || Bool·beq (has (without m q) q) (has m q)) (at m q q hm hq hq)
 
   -- From the computed test.
   pub without-le : without m q ≤ 31
-  without-le = let h = leb-true (without m q) m (and-left (leb (without m q) m) (not (has (without m q) q)) front) in omega arith
+  without-le = let h = leb-true (without m q) m (and-left (leb (without m q) m) (not (has (without m q) q)) without-rule) in omega arith
 
   -- From the computed test.
   pub has-without-same : has (without m q) q ≡ false
-  has-without-same = not-false (has (without m q) q) (and-right (leb (without m q) m) (not (has (without m q) q)) front)
+  has-without-same = not-false (has (without m q) q) (and-right (leb (without m q) m) (not (has (without m q) q)) without-rule)
 
 -- No port is in mask 0.
 has-none : all 5 (λ p. not (has 0 p)) ≡ true

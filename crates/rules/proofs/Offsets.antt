@@ -66,15 +66,15 @@ module _ (a t x : ℕ) (e : x ≡ minus (bits 1) a t) where
   unfolding minus bits low
   small = omega arith
 
-  is : offset (bits 1) a t ≡ signed 8 x
+  offset-signed : offset (bits 1) a t ≡ signed 8 x
   unfolding offset bits low
-  is = ap (signed 8) (sym e)
+  offset-signed = ap (signed 8) (sym e)
 
   pub offset-at-most-0 : leZ (offset (bits 1) a t) (pos 0) ≡ (eqb x 0 || leb 128 x)
-  offset-at-most-0 = rw is (at-most 0 (λ x. eqb x 0 || leb 128 x) zero-test x small)
+  offset-at-most-0 = rw offset-signed (at-most 0 (λ x. eqb x 0 || leb 128 x) zero-test x small)
 
   pub offset-at-most-126 : leZ (offset (bits 1) a t) (pos 126) ≡ not (eqb x 127)
-  offset-at-most-126 = rw is (at-most 126 (λ x. not (eqb x 127)) far-test x small)
+  offset-at-most-126 = rw offset-signed (at-most 126 (λ x. not (eqb x 127)) far-test x small)
 
   pub offset-at-least : (d : ℕ) → leZ (negℤ (pos d)) (offset (bits 1) a t) ≡ (ltb x 128 || leb (256 - x) d)
-  offset-at-least d = rw is (at-least d x small)
+  offset-at-least d = rw offset-signed (at-least d x small)

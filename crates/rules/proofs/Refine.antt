@@ -16,9 +16,9 @@ use Rattle.rules.specs.Areas.{bits, half, value, digits, packet, stamp, 
 use Rattle.rules.specs.Board.{Board, clock, horizon, latch, free, idle, time, deadline, mask, outgoing, delay, routes}
 use Rattle.rules.specs.Clock.{cut, plus, minus, offset}
 use Rattle.rules.specs.Questions.{sound, full}
-use Rattle.rules.specs.SoundKept.{held, Intact}
+use Rattle.rules.specs.SoundKept.{occupied, Intact}
 use Rattle.rules.specs.Tick.{arrived, served, withdrawn, returned}
-use Rattle.rules.specs.Whole.{Held, Router, TickCall, settings, emptied, packetBytes, outgoingBytes, answerBytes, isHeld}
+use Rattle.rules.specs.Whole.{Held, Router, TickCall, emptied, packetBytes, outgoingBytes, answerBytes, isHeld}
 use Rattle.rules.proofs.BoardLaws.{Laws}
 use Rattle.rules.specs.Tick as Tick
 use Rattle.rules.specs.Whole as Whole
@@ -26,13 +26,13 @@ use Rattle.rules.proofs.Booleans.{and-both}
 use Rattle.rules.proofs.IndexLaws.{count-same}
 use Rattle.rules.proofs.Integers.{orders}
 use Rattle.rules.proofs.WholeLaws.{AllHeld, emptied-kept}
-use Rattle.rules.proofs.Grants.{Rests, grant-rests, waiting-held}
-use Rattle.rules.proofs.Good.{Fit, HeldFit, Busy, Good, Input, fit-more, after, arrivals-busy, serving, served-held, served-kept, served-fit, fit-then}
-use Rattle.rules.proofs.TimeLaws.{cut-suc, fit-offset, fit-delay, fit-from}
+use Rattle.rules.proofs.Grants.{Rests, grant-rests, toServe-held}
+use Rattle.rules.proofs.Good.{InWindow, HeldInWindow, Busy, Good, Input, window-more, after, arrivals-busy, serving, served-held, served-kept, served-window, window-then}
+use Rattle.rules.proofs.TimeLaws.{cut-suc, window-offset, window-delay, window-from}
 use Rattle.rules.proofs.AreaLaws.{value-digits, length-digits, length-packed, packet-perPort}
 use Rattle.rules.proofs.Soundness.{StoredSound, delayOf, offsetOf, lists-sound, sound-iff}
 use Rattle.rules.proofs.StateLaws.{reads-self, reads-as, reads-put, reads-off}
-use Rattle.rules.proofs.Relation.{on-settings, Settled, Here, Rel, with-state, rel-free, rel-room, rel-settings}
+use Rattle.rules.proofs.Relation.{on-settings, SettingsShown, SlotShows, Rel, with-state, rel-free, rel-room, rel-settings}
 use Rattle.rules.proofs.RefineArrivals.{arrived-rel, arrived-code}
 use Rattle.rules.proofs.RefineServed.{served-rel, served-bytes, served-code}
 use Rattle.rules.proofs.RefineEmptied.{ended-rel, withdrawals-same}
@@ -58,7 +58,7 @@ module _ (B : Board) (L : Laws B) where
   open Board B using (clockBytes as c, stateLength, get, put)
 
   -- A packet held has a port left.
-  mask-held : (r : Store) (i : ℕ) (v : Option Held) → Here B L r i v → ((h : Held) → v ≡ some h → Busy h) → eqb (get (r .state) (mask i)) 0 ≡ not (isHeld v)
+  mask-held : (r : Store) (i : ℕ) (v : Option Held) → SlotShows B L r i v → ((h : Held) → v ≡ some h → Busy h) → eqb (get (r .state) (mask i)) 0 ≡ not (isHeld v)
   unfolding isHeld
   mask-held r i none h b = eq-eqb (get (r .state) (mask i)) 0 h
   mask-held r i (some x) h b = ne-eqb (get (r .state) (mask i)) 0 (λ e. let n = b x refl in let q = h .left in omega arith)
@@ -67,8 +67,8 @@ module _ (B : Board) (L : Laws B) where
     abbrev s : List ℕ
     s = r .state
 
-    abbrev S : Settled B L s w
-    S = R .settled
+    abbrev S : SettingsShown B L s w
+    S = R .settings
 
     -- ---- the store is sound
 
@@ -76,19 +76,19 @@ module _ (B : Board) (L : Laws B) where
     stored-sound : (i : ℕ) → i < 256 → get s (mask i) ≢ 0 → StoredSound B r i
     stored-sound i l n = go (w .place i) refl (R .place i l)
       where
-        go : (v : Option Held) → w .place i ≡ v → Here B L r i v → StoredSound B r i
+        go : (v : Option Held) → w .place i ≡ v → SlotShows B L r i v → StoredSound B r i
         go none e h = absurd (n h)
         go (some x) e H =
-            let F = G .fit i l x e in
+            let F = G .window i l x e in
             let y = x .packet in
-            let F′ : Fit c (w .clock) (half c) y = fit-more c (w .clock) (half c - 1) (half c) y (omega arith) (F .fit) in
-            let ed : delayOf B s i ≡ F′ .delay = ap₂ (minus (bits c)) (H .deadline) (H .time) ∙ fit-delay c (w .clock) y F′ in
-            let eo : offsetOf B s i ≡ y .time -ℤ w .clock = ap₂ (offset (bits c)) (H .time) (S .same clock refl (omega arith)) ∙ fit-offset c (w .clock) y F′ in
-            let soon = F .fit .soon in
+            let F′ : InWindow c (w .clock) (half c) y = window-more c (w .clock) (half c - 1) (half c) y (omega arith) (F .window) in
+            let ed : delayOf B s i ≡ F′ .delay = ap₂ (minus (bits c)) (H .deadline) (H .time) ∙ window-delay c (w .clock) y F′ in
+            let eo : offsetOf B s i ≡ y .time -ℤ w .clock = ap₂ (offset (bits c)) (H .time) (S .reads clock refl (omega arith)) ∙ window-offset c (w .clock) y F′ in
+            let soon = F .window .soon in
             record {
               ports = omega (arith, H .left, F .left);
               in-range = omega (arith, ed, F′ .small);
-              not-late = record { le = rw (ed, eo) (fit-from c (w .clock) y F′) };
+              not-late = record { le = rw (ed, eo) (window-from c (w .clock) y F′) };
               not-far = record { le = rw eo (omega (arith, orders)) };
               header = ap (stamp c) (H .bytes) ∙ stamp-bytes c y (L .some-bytes) ∙ sym (H .deadline);
             }
@@ -97,12 +97,12 @@ module _ (B : Board) (L : Laws B) where
     pub rel-sound : sound B r ≡ true
     rel-sound = sound-iff B r .1 (record {
       settings = record {
-        delays = λ i l. omega (arith, S .same (delay i) refl l, G .settings .entry i l .delay);
-        masks = λ i l. omega (arith, S .same (routes i) refl l, G .settings .entry i l .mask);
-        horizons = λ p l. omega (arith, S .same (horizon p) refl l, G .settings .horizon p l);
-        register-1 = omega (arith, S .same (latch 1) refl (omega arith), G .settings .latch .delay);
-        register-2 = omega (arith, S .same (latch 2) refl (omega arith), G .settings .latch .mask);
-        register-4 = omega (arith, S .same (latch 3) refl (omega arith), G .settings .ports);
+        delays = λ i l. omega (arith, S .reads (delay i) refl l, G .settings .entry i l .delay);
+        masks = λ i l. omega (arith, S .reads (routes i) refl l, G .settings .entry i l .mask);
+        horizons = λ p l. omega (arith, S .reads (horizon p) refl l, G .settings .horizon p l);
+        register-1 = omega (arith, S .reads (latch 1) refl (omega arith), G .settings .latch .delay);
+        register-2 = omega (arith, S .reads (latch 2) refl (omega arith), G .settings .latch .mask);
+        register-4 = omega (arith, S .reads (latch 3) refl (omega arith), G .settings .ports);
       };
       stack = lists-sound B s (rel-room B L R (G .kept)) (ap distinct (R .stack) ∙ G .kept .once) (λ i l. ap (elem i) (R .stack) ∙ G .kept .idle i l ∙ sym (mask-held r i (w .place i) (R .place i l) (G .busy i l)));
       stored = stored-sound;
@@ -117,7 +117,7 @@ module _ (B : Board) (L : Laws B) where
     pub rel-intact : Intact B r
     unfolding stored
     rel-intact =
-        let same = count-same (held B s) (λ i. isHeld (w .place i)) 256 (λ i l. ap not (mask-held r i (w .place i) (R .place i l) (G .busy i l)) ∙ Bool·not-not (isHeld (w .place i))) in
+        let same = count-same (occupied B s) (λ i. isHeld (w .place i)) 256 (λ i l. ap not (mask-held r i (w .place i) (R .place i l) (G .busy i l)) ∙ Bool·not-not (isHeld (w .place i))) in
         record { full = rel-full; sound = rel-sound; slots = let n = rel-free B L R in let k = G .kept .all in omega arith }
 
     -- ---- a tick
@@ -149,8 +149,8 @@ module _ (B : Board) (L : Laws B) where
       K₂ : Kept (w₂ .place) (w₂ .free)
       K₂ = served-kept c w call G I 5
 
-      F₂ : AllHeld (HeldFit c (w₂ .clock) (half c)) (w₂ .place)
-      F₂ = fit-then c w call G I 5 (omega arith)
+      F₂ : AllHeld (HeldInWindow c (w₂ .clock) (half c)) (w₂ .place)
+      F₂ = window-then c w call G I 5 (omega arith)
 
       abbrev s₄ : List ℕ
       s₄ = returned B 256 (r₁ .state) (withdrawn B 256 s₂)
@@ -166,26 +166,26 @@ module _ (B : Board) (L : Laws B) where
       unfolding Tick.ticked Whole.ticked
       tick-rel =
           let v = plus (bits c) (get s₄ clock) 1 in
-          let e : v ≡ cut (bits c) (sucℤ (w₄ .clock)) = ap (λ (n : ℕ). plus (bits c) n 1) (R₄ .settled .same clock refl (omega arith)) ∙ cut-suc (bits c) (w₄ .clock) in
+          let e : v ≡ cut (bits c) (sucℤ (w₄ .clock)) = ap (λ (n : ℕ). plus (bits c) n 1) (R₄ .settings .reads clock refl (omega arith)) ∙ cut-suc (bits c) (w₄ .clock) in
           rel-settings B L R₄ (emptied-kept (w₂ .clock) 256 w₂ (omega arith) K₂)
-          (reads-as B L (reads-put B L (R₄ .settled) clock v (omega arith)) (on-settings _ _ e (λ p l. refl) (λ q l. refl) (λ i l. (refl, refl, refl))))
-          (reads-off B L (reads-self B L s₄ (R₄ .settled .sized)) clock v (omega arith) refl) refl refl
+          (reads-as B L (reads-put B L (R₄ .settings) clock v (omega arith)) (on-settings _ _ e (λ p l. refl) (λ q l. refl) (λ i l. (refl, refl, refl))))
+          (reads-off B L (reads-self B L s₄ (R₄ .settings .sized)) clock v (omega arith) refl) refl refl
 
       -- What goes out for a port has 20 bytes.
-      waiting-length : (q : ℕ) → q < 5 → (i : ℕ) (x : Whole.Packet) → i < 256 → Whole.waiting (serving c w call q .place i) q ≡ some x → length (packetBytes c x) ≡ 20
+      toServe-length : (q : ℕ) → q < 5 → (i : ℕ) (x : Whole.Packet) → i < 256 → Whole.toServe (serving c w call q .place i) q ≡ some x → length (packetBytes c x) ≡ 20
       unfolding packetBytes
-      waiting-length q h i x l e =
-          let (k, ev, ex, t) = waiting-held (serving c w call q .place i) q x e in
-          let f = served-fit c w call G I q (omega arith) i l k ev in
-          length-packed c (x .identifier) (cut (bits c) (x .deadline)) (x .payload) (ap (λ (y : Whole.Packet). length (y .payload)) (sym ex) ∙ f .fit .size) (L .few-bytes)
+      toServe-length q h i x l e =
+          let (k, ev, ex, t) = toServe-held (serving c w call q .place i) q x e in
+          let f = served-window c w call G I q (omega arith) i l k ev in
+          length-packed c (x .identifier) (cut (bits c) (x .deadline)) (x .payload) (ap (λ (y : Whole.Packet). length (y .payload)) (sym ex) ∙ f .window .size) (L .few-bytes)
 
       -- A packet granted waits, so it fits.
       granted-length : (q : ℕ) → q < 5 → (g : Grant (ℕ × Whole.Packet)) → Rests (serving c w call q) q g → length (Whole.grantBytes c g) ≡ 20
       unfolding Whole.grantBytes packetBytes
       granted-length q h nobody a = length-replicate {A = ℕ} 20 0
       granted-length q h bestEffort a = length-replicate {A = ℕ} 20 0
-      granted-length q h (onTime (i, x)) a = waiting-length q h i x (a .0) (a .1)
-      granted-length q h (early (i, x)) a = waiting-length q h i x (a .0) (a .1)
+      granted-length q h (onTime (i, x)) a = toServe-length q h i x (a .0) (a .1)
+      granted-length q h (early (i, x)) a = toServe-length q h i x (a .0) (a .1)
 
       grant-length : (q : ℕ) → q < 5 → length (Whole.grantBytes c (Whole.ticked c w call .report .grant q)) ≡ 20
       unfolding Whole.ticked

@@ -19,17 +19,17 @@ use Rattle.rules.specs.Indices.{topFirst}
 use Rattle.rules.specs.Questions.{stack}
 use Rattle.rules.specs.Tick.{arrived}
 use Rattle.rules.specs.Tick as Tick
-use Rattle.rules.specs.Whole.{Held, Router, TickCall, withPlaces, placed, admitted, arrivalCode, meets, arrivals, packetBytes}
+use Rattle.rules.specs.Whole.{Held, Router, TickCall, withPlaces, placed, admitted, arrivalCode, meets, packetBytes}
 use Rattle.rules.specs.Whole as Whole
-use Rattle.rules.proofs.BoardLaws.{Laws, same}
+use Rattle.rules.proofs.BoardLaws.{Laws, sameField}
 use Rattle.rules.proofs.Booleans.{cons-first, cons-rest}
 use Rattle.rules.proofs.Integers.{diff-late}
-use Rattle.rules.proofs.WholeLaws.{fresh-held, made, Made, arrival-by, first-place, arrival-code}
+use Rattle.rules.proofs.WholeLaws.{fresh-held, made, Passed, arrival-by, first-place, arrival-code}
 use Rattle.rules.proofs.Good.{Good, Input, after, arrivals-kept, input-then}
 use Rattle.rules.proofs.TimeLaws.{plus-cut, offset-is}
 use Rattle.rules.proofs.AreaLaws.{length-packet, length-payload, packet-same, packet-other, length-packed}
 use Rattle.rules.proofs.StateLaws.{Reads, none-out, reads-self, reads-put, reads-off, topFirst-same}
-use Rattle.rules.proofs.Relation.{Here, Untouched, Rel, rel-free, here-put, settled-places, kept-room}
+use Rattle.rules.proofs.Relation.{SlotShows, Untouched, Rel, rel-free, shows-put, settings-places, kept-room}
 
 module _ (B : Board) (L : Laws B) where
   open Board B using (clockBytes as c, get, put)
@@ -51,15 +51,15 @@ module _ (B : Board) (L : Laws B) where
 
     -- The entry as the router has it.
     routes-same : get s (routes i) ≡ w .entry i .mask
-    routes-same = R .settled .same (routes i) refl hi
+    routes-same = R .settings .reads (routes i) refl hi
 
     delay-same : get s (delay i) ≡ w .entry i .delay
-    delay-same = R .settled .same (delay i) refl hi
+    delay-same = R .settings .reads (delay i) refl hi
 
     -- An offset below - d is a deadline before the clock.
     late-same : has (call .arriving) p ≡ true → ltZ (offset (bits c) (stamp c k) (get s clock)) (negℤ (pos (get s (delay i)))) ≡ ltZ (call .times p +ℤ pos (w .entry i .delay)) (w .clock)
     late-same h =
-        ap₂ (λ (o : ℤ) (d : ℕ). ltZ o (negℤ (pos d))) (ap₂ (offset (bits c)) (I .header p hp h) (R .settled .same clock refl (omega arith)) ∙ offset-is c (call .times p) (w .clock) (I .from p hp h) (I .soon p hp h)) delay-same
+        ap₂ (λ (o : ℤ) (d : ℕ). ltZ o (negℤ (pos d))) (ap₂ (offset (bits c)) (I .header p hp h) (R .settings .reads clock refl (omega arith)) ∙ offset-is c (call .times p) (w .clock) (I .from p hp h) (I .soon p hp h)) delay-same
         ∙ diff-late (w .entry i .delay) (call .times p) (w .clock)
 
     -- Both routers answer an arrival alike.
@@ -106,8 +106,8 @@ module _ (B : Board) (L : Laws B) where
       hj = first-place K′
 
       -- Four stores, read back.
-      stores : Reads B L none-out (r′ .state) (λ f. cond (same (mask j) f) (get s (routes i)) (cond (same (deadline j) f) D (cond (same (time j) f) (stamp c k) (cond (same free f) N (get s f)))))
-      stores = reads-put B L (reads-put B L (reads-put B L (reads-put B L (reads-self B L s (R .settled .sized)) free N (omega arith)) (time j) (stamp c k) hj) (deadline j) D hj) (mask j) (get s (routes i)) hj
+      stores : Reads B L none-out (r′ .state) (λ f. cond (sameField (mask j) f) (get s (routes i)) (cond (sameField (deadline j) f) D (cond (sameField (time j) f) (stamp c k) (cond (sameField free f) N (get s f)))))
+      stores = reads-put B L (reads-put B L (reads-put B L (reads-put B L (reads-self B L s (R .settings .sized)) free N (omega arith)) (time j) (stamp c k) hj) (deadline j) D hj) (mask j) (get s (routes i)) hj
 
       -- The sum that turns over is the deadline, cut.
       deadline-same : D ≡ cut (bits c) (call .times p +ℤ pos (w .entry i .delay))
@@ -115,7 +115,7 @@ module _ (B : Board) (L : Laws B) where
 
       bytes-same : bytes ≡ packetBytes c (made c w p k (call .times p))
       unfolding packetBytes
-      bytes-same = ap₂ (λ (o d : ℕ). packed c o d (payload c k)) (R .settled .same (outgoing i) refl hi) deadline-same
+      bytes-same = ap₂ (λ (o d : ℕ). packed c o d (payload c k)) (R .settings .reads (outgoing i) refl hi) deadline-same
 
       bytes-length : length bytes ≡ 20
       bytes-length = length-packed c (get s (outgoing i)) D (payload c k) (length-payload c k (length-packet (call .arrivals) p (let e = I .whole in omega arith))) (L .few-bytes)
@@ -124,13 +124,13 @@ module _ (B : Board) (L : Laws B) where
       new = fresh-held (made c w p k (call .times p))
 
       -- Slot j shows the packet.
-      new-here : Here B L r′ j (some new)
+      new-here : SlotShows B L r′ j (some new)
       new-here =
           let self = eq-eqb j j refl in
           record {
-            time = stores .same (time j) refl hj ∙ rw self (I .header p hp here);
-            deadline = stores .same (deadline j) refl hj ∙ rw self deadline-same;
-            left = stores .same (mask j) refl hj ∙ rw self routes-same;
+            time = stores .reads (time j) refl hj ∙ rw self (I .header p hp here);
+            deadline = stores .reads (deadline j) refl hj ∙ rw self deadline-same;
+            left = stores .reads (mask j) refl hj ∙ rw self routes-same;
             bytes = packet-same (r .memory) bytes j (R .whole) hj bytes-length ∙ bytes-same;
           }
 
@@ -139,9 +139,9 @@ module _ (B : Board) (L : Laws B) where
       others q hq n =
           let no = ne-eqb j q (λ e. n (sym e)) in
           record {
-            time = stores .same (time q) refl hq ∙ rw no;
-            deadline = stores .same (deadline q) refl hq ∙ rw no;
-            mask = stores .same (mask q) refl hq ∙ rw no;
+            time = stores .reads (time q) refl hq ∙ rw no;
+            deadline = stores .reads (deadline q) refl hq ∙ rw no;
+            mask = stores .reads (mask q) refl hq ∙ rw no;
             bytes = packet-other (r .memory) bytes j q n bytes-length;
           }
 
@@ -149,13 +149,13 @@ module _ (B : Board) (L : Laws B) where
       stored-rel : Rel B L r′ (withPlaces w (Whole.put (w .place) j (some new)) l)
       unfolding stack
       stored-rel = record {
-        settled = settled-places B L (Whole.put (w .place) j (some new)) l (reads-off B L (reads-off B L (reads-off B L (reads-off B L (R .settled) free N (omega arith) refl) (time j) (stamp c k) hj refl) (deadline j) D hj refl) (mask j) (get s (routes i)) hj refl);
+        settings = settings-places B L (Whole.put (w .place) j (some new)) l (reads-off B L (reads-off B L (reads-off B L (reads-off B L (R .settings) free N (omega arith) refl) (time j) (stamp c k) hj refl) (deadline j) D hj refl) (mask j) (get s (routes i)) hj refl);
         whole = length-sets (r .memory) (20 * j) bytes ∙ R .whole;
-        place = here-put B L R j (some new) new-here others;
+        place = shows-put B L R j (some new) new-here others;
         stack =
             let room = kept-room K′ in
-            ap (topFirst (λ i. get (r′ .state) (idle i))) (stores .same free refl (omega arith))
-            ∙ topFirst-same (λ i. get (r′ .state) (idle i)) (λ i. get s (idle i)) N (λ q m. stores .same (idle q) refl (omega arith)) ∙ cons-rest top;
+            ap (topFirst (λ i. get (r′ .state) (idle i))) (stores .reads free refl (omega arith))
+            ∙ topFirst-same (λ i. get (r′ .state) (idle i)) (λ i. get s (idle i)) N (λ q m. stores .reads (idle q) refl (omega arith)) ∙ cons-rest top;
       }
 
       -- The top idle address is j.
@@ -170,16 +170,16 @@ module _ (B : Board) (L : Laws B) where
     unfolding admitted placed arrivalCode
     arrival-rel = rw code-same (arrival-by c w (call .arriving) p k (call .times p) (λ a. Rel B L (cond (eqb (arrivalCode a) 1) (Tick.placed B r k) r) (admitted a w)) R (λ q l. rw (ne-eqb q 1 (omega arith)) R) (λ m. first (w .free) refl m))
       where
-        first : (l : List ℕ) → w .free ≡ l → Made c w (call .arriving) p k (call .times p) (made c w p k (call .times p)) → Rel B L (Tick.placed B r k) (placed l (made c w p k (call .times p)) w)
+        first : (l : List ℕ) → w .free ≡ l → Passed c w (call .arriving) p k (call .times p) (made c w p k (call .times p)) → Rel B L (Tick.placed B r k) (placed l (made c w p k (call .times p)) w)
         first [] e m = absurd (true≢false (sym (ap (λ (z : List ℕ). eqb (length z) 0) e) ∙ m .room))
-        first (j ∷ l) e m = rw (stored-is (m .here) j l e) (stored-rel (m .here) j l e)
+        first (j ∷ l) e m = rw (stored-is (m .brought) j l e) (stored-rel (m .brought) j l e)
 
   -- ---- the arrivals on the ports below p
 
   module _ {r : Store} {w : Router} (R : Rel B L r w) (G : Good c w) (call : TickCall) (I : Input c (w .clock) call) where
     -- They keep the relation.
     pub arrived-rel : (p : ℕ) → p ≤ 5 → Rel B L (arrived B p (call .arriving) (call .arrivals) r) (after c w call p)
-    unfolding arrived arrivals
+    unfolding arrived Whole.arrived
     arrived-rel zero l = R
     arrived-rel (suc p) l = arrival-rel (arrived-rel p (omega arith)) (arrivals-kept c w call G I p) call (input-then c w call G I p) p (omega arith)
 

@@ -10,7 +10,7 @@ use Rattle.rules.specs.Account.{Kept}
 use Rattle.rules.specs.Areas.{has, fits, Store}
 use Rattle.rules.specs.Board.{Board, Field, horizon, latch, outgoing, delay, routes}
 use Rattle.rules.specs.Control.{commitEntry, commitHorizon, written}
-use Rattle.rules.specs.Whole.{Entry, Router, settings}
+use Rattle.rules.specs.Whole.{Entry, Router}
 use Rattle.rules.specs.Whole as Whole
 use Rattle.rules.proofs.BoardLaws.{Laws}
 use Rattle.rules.proofs.Good.{latched}
@@ -26,11 +26,11 @@ module _ (B : Board) (L : Laws B) where
 
     -- The state met, for what is not a setting.
     met : {t : ℕ → Bool} → Reads B L t s (get s)
-    met = reads-self B L s (R .settled .sized)
+    met = reads-self B L s (R .settings .sized)
 
     -- What a register holds.
     register-same : (q : ℕ) → q < 4 → get s (latch q) ≡ w .latch q
-    register-same q l = R .settled .same (latch q) refl l
+    register-same q l = R .settings .reads (latch q) refl l
 
     -- ---- registers 0, 1, 2 and 4
 
@@ -38,7 +38,7 @@ module _ (B : Board) (L : Laws B) where
     latch-rel : (q v : ℕ) → q < 4 → Rel B L (with-state B L r (put s (latch q) v)) (record { clock = w .clock; horizon = w .horizon; latch = Whole.put (w .latch) q v; entry = w .entry; place = w .place; free = w .free })
     unfolding Whole.put
     latch-rel q v l = rel-settings B L R K
-        (reads-as B L (reads-put B L (R .settled) (latch q) v l) (on-settings _ _ refl (λ p h. refl) (λ j h. refl) (λ i h. (refl, refl, refl))))
+        (reads-as B L (reads-put B L (R .settings) (latch q) v l) (on-settings _ _ refl (λ p h. refl) (λ j h. refl) (λ i h. (refl, refl, refl))))
         (reads-off B L met (latch q) v l refl) refl refl
 
     -- ---- register 3
@@ -57,7 +57,7 @@ module _ (B : Board) (L : Laws B) where
       entry-rel : Rel B L (with-state B L r (commitEntry B v s)) (record { clock = w .clock; horizon = w .horizon; latch = w .latch; entry = Whole.put (w .entry) v (latched w); place = w .place; free = w .free })
       entry-rel =
           rel-settings B L R K
-          (reads-as B L (reads-put B L (reads-put B L (reads-put B L (R .settled) (outgoing v) (get s (latch 0)) hv) (delay v) (get s (latch 1)) hv) (routes v) (get s (latch 2)) hv) (on-settings _ _ refl (λ p h. refl) (λ j h. refl) (λ i h. (
+          (reads-as B L (reads-put B L (reads-put B L (reads-put B L (R .settings) (outgoing v) (get s (latch 0)) hv) (delay v) (get s (latch 1)) hv) (routes v) (get s (latch 2)) hv) (on-settings _ _ refl (λ p h. refl) (λ j h. refl) (λ i h. (
             part-put (λ e. e .identifier) i (register-same 0 (omega arith)),
             part-put (λ e. e .delay) i (register-same 1 (omega arith)),
             part-put (λ e. e .mask) i (register-same 2 (omega arith)),
@@ -78,18 +78,18 @@ module _ (B : Board) (L : Laws B) where
     horizon-rel v =
         let m = get s (latch 3) in
         rel-settings B L R K
-        (reads-as B L (committed m v (R .settled) 5 (omega arith)) (on-settings _ _ refl (λ p l. rw (lt-ltb p 5 l, register-same 3 (omega arith))) (λ j l. refl) (λ i l. (refl, refl, refl))))
+        (reads-as B L (committed m v (R .settings) 5 (omega arith)) (on-settings _ _ refl (λ p l. rw (lt-ltb p 5 l, register-same 3 (omega arith))) (λ j l. refl) (λ i l. (refl, refl, refl))))
         (reads-apart B L (horizon 0) _ v refl (committed m v met 5 (omega arith))) refl refl
 
     -- ---- the write
 
     -- Register by register.
-    pub write-rel : (register v : ℕ) → register ≤ 5 → fits c register v ≡ true → Rel B L (with-state B L r (written B register v s)) (settings register v w)
-    unfolding written settings fits
-    write-rel zero v l f = latch-rel 0 v (omega arith)
-    write-rel (suc zero) v l f = latch-rel 1 v (omega arith)
-    write-rel (suc (suc zero)) v l f = latch-rel 2 v (omega arith)
-    write-rel (suc (suc (suc zero))) v l f = entry-rel v (ltb-true v 256 f)
-    write-rel (suc (suc (suc (suc zero)))) v l f = latch-rel 3 v (omega arith)
-    write-rel (suc (suc (suc (suc (suc zero))))) v l f = horizon-rel v
-    write-rel (suc (suc (suc (suc (suc (suc n)))))) v l f = absurd (omega arith)
+    pub written-rel : (register v : ℕ) → register ≤ 5 → fits c register v ≡ true → Rel B L (with-state B L r (written B register v s)) (Whole.written register v w)
+    unfolding written Whole.written fits
+    written-rel zero v l f = latch-rel 0 v (omega arith)
+    written-rel (suc zero) v l f = latch-rel 1 v (omega arith)
+    written-rel (suc (suc zero)) v l f = latch-rel 2 v (omega arith)
+    written-rel (suc (suc (suc zero))) v l f = entry-rel v (ltb-true v 256 f)
+    written-rel (suc (suc (suc (suc zero)))) v l f = latch-rel 3 v (omega arith)
+    written-rel (suc (suc (suc (suc (suc zero))))) v l f = horizon-rel v
+    written-rel (suc (suc (suc (suc (suc (suc n)))))) v l f = absurd (omega arith)

@@ -16,17 +16,17 @@ use Rattle.rules.specs.Demand3.{HeldShown}
 use Rattle.rules.specs.Indices.{count, counted, topFirst}
 use Rattle.rules.specs.Questions.{stack}
 use Rattle.rules.specs.Tick.{isDue as isDueNow, withdrawn, withdrawals, giveBack, returned}
-use Rattle.rules.specs.Whole.{Held, Router, waiting, isDue, due, settle, freed, emptied, isHeld}
-use Rattle.rules.proofs.BoardLaws.{Laws, same}
+use Rattle.rules.specs.Whole.{Held, Router, toServe, isDue, due, remaining, freed, emptied, isHeld}
+use Rattle.rules.proofs.BoardLaws.{Laws, sameField}
 use Rattle.rules.specs.Whole as Whole
 use Rattle.rules.proofs.Booleans.{and-left}
 use Rattle.rules.proofs.IndexLaws.{count-pos}
 use Rattle.rules.proofs.Masks.{has-zero}
 use Rattle.rules.proofs.WholeLaws.{AllHeld, emptied-at, emptied-place, emptied-kept, emptied-frame}
-use Rattle.rules.proofs.Good.{HeldFit}
-use Rattle.rules.proofs.TimeLaws.{fit-due}
+use Rattle.rules.proofs.Good.{HeldInWindow}
+use Rattle.rules.proofs.TimeLaws.{window-due}
 use Rattle.rules.proofs.StateLaws.{Reads, none-out, reads-self, reads-through, reads-less, reads-put, reads-apart, reads-off, marked, marked-none, marked-next, stack-same, topFirst-same, length-stack}
-use Rattle.rules.proofs.Relation.{Here, Settled, settled-places, Rel, with-state, rel-room}
+use Rattle.rules.proofs.Relation.{SlotShows, SettingsShown, settings-places, Rel, with-state, rel-room}
 
 -- Something held is counted.
 held-counts : (f : ℕ → Option Held) (i : ℕ) → i < 256 → isHeld (f i) ≡ true → 0 < stored f
@@ -35,7 +35,7 @@ held-counts f i l h = count-pos (λ j. isHeld (f j)) 256 i l h
 
 -- A place is emptied now.
 abbrev leaves : ℤ → Option Held → Bool
-leaves t v = isHeld v && not (isHeld (settle t v))
+leaves t v = isHeld v && not (isHeld (remaining t v))
 
 -- The mask that withdrawal leaves.
 abbrev remains : ℤ → Option Held → ℕ
@@ -44,7 +44,7 @@ remains t (some h) = cond (isDue t (h .packet)) 0 (h .left)
 
 -- Held before and without a port now: the place is emptied.
 returns-is : (t : ℤ) (v : Option Held) → (not (not (isHeld v)) && eqb (remains t v) 0) ≡ leaves t v
-unfolding isHeld settle
+unfolding isHeld remaining
 returns-is t none = refl
 returns-is t (some h) = go (isDue t (h .packet)) (eqb (h .left) 0) refl
   where
@@ -64,7 +64,7 @@ module _ (B : Board) (L : Laws B) where
   withdrawn-reads s z zero l = marked-none B L mask (λ i. refl) (λ i. refl) (isDueNow B s) 0 (get s) (reads-self B L s z)
   withdrawn-reads s z (suc n) l =
       let M = withdrawn-reads s z n (omega arith) in
-      rw (M .same (deadline n) refl (omega arith), M .same clock refl (omega arith)) (marked-next B L mask (λ i. refl) (λ i. refl) (isDueNow B s) 0 (get s) n M (omega arith))
+      rw (M .reads (deadline n) refl (omega arith), M .reads clock refl (omega arith)) (marked-next B L mask (λ i. refl) (λ i. refl) (isDueNow B s) 0 (get s) n M (omega arith))
 
   -- ---- a slot goes back on the stack
 
@@ -78,17 +78,17 @@ module _ (B : Board) (L : Laws B) where
     unfolding stack topFirst
     push-stack =
         let n = get s free in
-        let P : Reads B L none-out (giveBack B i s) (λ f. cond (same free f) (n + 1) (cond (same (idle n) f) i (get s f))) = reads-put B L (reads-put B L (reads-self B L s (R .sized)) (idle n) i room) free (n + 1) (omega arith) in
-        let e : get (giveBack B i s) free ≡ suc n = P .same free refl (omega arith) ∙ omega arith in
+        let P : Reads B L none-out (giveBack B i s) (λ f. cond (sameField free f) (n + 1) (cond (sameField (idle n) f) i (get s f))) = reads-put B L (reads-put B L (reads-self B L s (R .sized)) (idle n) i room) free (n + 1) (omega arith) in
+        let e : get (giveBack B i s) free ≡ suc n = P .reads free refl (omega arith) ∙ omega arith in
         ap (topFirst (λ j. get (giveBack B i s) (idle j))) e
-        ∙ ap₂ (λ (x : ℕ) (l : List ℕ). x ∷ l) (P .same (idle n) refl room ∙ rw (eq-eqb n n refl))
-        (topFirst-same (λ j. get (giveBack B i s) (idle j)) (λ j. get s (idle j)) n (λ j h. P .same (idle j) refl (omega arith) ∙ rw (ne-eqb n j (omega arith))))
+        ∙ ap₂ (λ (x : ℕ) (l : List ℕ). x ∷ l) (P .reads (idle n) refl room ∙ rw (eq-eqb n n refl))
+        (topFirst-same (λ j. get (giveBack B i s) (idle j)) (λ j. get s (idle j)) n (λ j h. P .reads (idle j) refl (omega arith) ∙ rw (ne-eqb n j (omega arith))))
 
   -- ---- both steps
 
   -- `held` is a state whose slots had a port to serve just where the places hold a packet.
-  module _ {r : Store} {w : Router} (R : Rel B L r w) (K : Kept (w .place) (w .free)) (F : AllHeld (HeldFit c (w .clock) (half c)) (w .place))
-      (held : List ℕ) (was : (i : ℕ) → i < 256 → eqb (get held (mask i)) 0 ≡ not (isHeld (w .place i))) where
+  module _ {r : Store} {w : Router} (R : Rel B L r w) (K : Kept (w .place) (w .free)) (F : AllHeld (HeldInWindow c (w .clock) (half c)) (w .place))
+      (before : List ℕ) (was : (i : ℕ) → i < 256 → eqb (get before (mask i)) 0 ≡ not (isHeld (w .place i))) where
     abbrev t : ℤ
     t = w .clock
 
@@ -97,28 +97,28 @@ module _ (B : Board) (L : Laws B) where
 
     -- A held packet is due where its slot is.
     due-here : (i : ℕ) → i < 256 → (h : Held) → w .place i ≡ some h → HeldShown B r i h → isDueNow B s i ≡ isDue t (h .packet)
-    due-here i l h e H = ap₂ eqb (H .deadline) (R .settled .same clock refl (omega arith)) ∙ fit-due c t (h .packet) (F i l h e .fit)
+    due-here i l h e H = ap₂ eqb (H .deadline) (R .settings .reads clock refl (omega arith)) ∙ window-due c t (h .packet) (F i l h e .window)
 
     abbrev s₃ : List ℕ
     s₃ = withdrawn B 256 s
 
     M : Reads B L none-out s₃ (marked B L mask (λ i. refl) (λ i. refl) (isDueNow B s) 0 (get s) 256)
-    M = withdrawn-reads s (R .settled .sized) 256 (omega arith)
+    M = withdrawn-reads s (R .settings .sized) 256 (omega arith)
 
     -- A slot that is due has no port left, any other keeps its ports.
     mask-remains : (i : ℕ) → i < 256 → get s₃ (mask i) ≡ remains t (w .place i)
-    mask-remains i l = M .same (mask i) refl l ∙ rw (lt-ltb i 256 l) (go (w .place i) refl (R .place i l))
+    mask-remains i l = M .reads (mask i) refl l ∙ rw (lt-ltb i 256 l) (go (w .place i) refl (R .place i l))
       where
         same-arms : (b : Bool) (n : ℕ) → cond b n n ≡ n
         same-arms true n = refl
         same-arms false n = refl
 
-        go : (v : Option Held) → w .place i ≡ v → Here B L r i v → cond (isDueNow B s i) 0 (get s (mask i)) ≡ remains t v
+        go : (v : Option Held) → w .place i ≡ v → SlotShows B L r i v → cond (isDueNow B s i) 0 (get s (mask i)) ≡ remains t v
         go none e h = rw h (same-arms (isDueNow B s i) 0)
         go (some h) e H = ap₂ (λ (b : Bool) (m : ℕ). cond b 0 m) (due-here i l h e H) (H .left)
 
     abbrev back : ℕ → List ℕ
-    back n = returned B n held s₃
+    back n = returned B n before s₃
 
     abbrev e : ℕ → Router
     e n = emptied t n w
@@ -128,7 +128,7 @@ module _ (B : Board) (L : Laws B) where
 
     -- After the slots below n: settings and slots stay, and the stack is the free list.
     record Back (n : ℕ) : Type 0 where
-      settled : Settled B L (back n) w
+      settings : SettingsShown B L (back n) w
       slots : Reads B L stacks (back n) (get s₃)
       stacked : stack B (back n) ≡ e n .free
 
@@ -146,8 +146,8 @@ module _ (B : Board) (L : Laws B) where
         here : e n .place n ≡ v
         here = emptied-at t n w n ∙ rw (le-ltb n n (omega arith))
 
-        tests : (not (eqb (get held (mask n)) 0) && eqb (get s′ (mask n)) 0) ≡ leaves t v
-        tests = rw (was n l, P .slots .same (mask n) refl l, mask-remains n l) (returns-is t v)
+        tests : (not (eqb (get before (mask n)) 0) && eqb (get s′ (mask n)) 0) ≡ leaves t v
+        tests = rw (was n l, P .slots .reads (mask n) refl l, mask-remains n l) (returns-is t v)
 
         free-is : e (suc n) .free ≡ cond (leaves t v) (n ∷ e n .free) (e n .free)
         free-is = rw here
@@ -161,54 +161,54 @@ module _ (B : Board) (L : Laws B) where
 
         finish : (b : Bool) → leaves t v ≡ b → Back (suc n)
         finish true m =
-            let h = room (and-left (isHeld v) (not (isHeld (settle t v))) m) in
+            let h = room (and-left (isHeld v) (not (isHeld (remaining t v))) m) in
             record {
-              settled = rw (tests, m) (push-reads (P .settled) n h refl refl);
+              settings = rw (tests, m) (push-reads (P .settings) n h refl refl);
               slots = rw (tests, m) (push-reads (P .slots) n h refl refl);
-              stacked = rw (tests, free-is, m) (push-stack (P .settled) n h ∙ ap (λ (l : List ℕ). n ∷ l) (P .stacked));
+              stacked = rw (tests, free-is, m) (push-stack (P .settings) n h ∙ ap (λ (l : List ℕ). n ∷ l) (P .stacked));
             }
-        finish false m = record { settled = rw (tests, m) (P .settled); slots = rw (tests, m) (P .slots); stacked = rw (tests, free-is, m) (P .stacked) }
+        finish false m = record { settings = rw (tests, m) (P .settings); slots = rw (tests, m) (P .slots); stacked = rw (tests, free-is, m) (P .stacked) }
 
     -- By induction over the slots; withdrawal leaves settings and stack.
     backs : (n : ℕ) → n ≤ 256 → Back n
     unfolding returned emptied
     backs zero l = record {
-      settled = reads-through B L (reads-apart B L (mask 0) _ 0 refl (reads-less B L M)) (R .settled);
+      settings = reads-through B L (reads-apart B L (mask 0) _ 0 refl (reads-less B L M)) (R .settings);
       slots = reads-self B L s₃ (M .sized);
-      stacked = stack-same B L s s₃ (rel-room B L R K) (M .same free refl (omega arith)) (λ i m. M .same (idle i) refl m) ∙ R .stack;
+      stacked = stack-same B L s s₃ (rel-room B L R K) (M .reads free refl (omega arith)) (λ i m. M .reads (idle i) refl m) ∙ R .stack;
     }
     backs (suc n) l = back-step n (omega arith) (backs n (omega arith))
 
     -- ---- what both leave
 
     -- In each slot what settles in its place.
-    ended-here : (i : ℕ) → i < 256 → Here B L (with-state B L r (back 256)) i (settle t (w .place i))
-    unfolding settle
+    ended-here : (i : ℕ) → i < 256 → SlotShows B L (with-state B L r (back 256)) i (remaining t (w .place i))
+    unfolding remaining
     ended-here i l = go (w .place i) refl (R .place i l)
       where
         O : Reads B L stacks (back 256) (get s₃)
         O = backs 256 (omega arith) .slots
 
         mask-is : {v : Option Held} → w .place i ≡ v → get (back 256) (mask i) ≡ remains t v
-        mask-is e = O .same (mask i) refl l ∙ mask-remains i l ∙ ap (remains t) e
+        mask-is e = O .reads (mask i) refl l ∙ mask-remains i l ∙ ap (remains t) e
 
-        go : (v : Option Held) → w .place i ≡ v → Here B L r i v → Here B L (with-state B L r (back 256)) i (settle t v)
+        go : (v : Option Held) → w .place i ≡ v → SlotShows B L r i v → SlotShows B L (with-state B L r (back 256)) i (remaining t v)
         go none e h = mask-is e
         go (some h) e H = at (isDue t (h .packet)) (eqb (h .left) 0) refl refl
           where
-            at : (a b : Bool) → isDue t (h .packet) ≡ a → eqb (h .left) 0 ≡ b → Here B L (with-state B L r (back 256)) i (cond (a || b) none (some h))
+            at : (a b : Bool) → isDue t (h .packet) ≡ a → eqb (h .left) 0 ≡ b → SlotShows B L (with-state B L r (back 256)) i (cond (a || b) none (some h))
             at true b p q = mask-is e ∙ rw p
             at false true p q = mask-is e ∙ rw p (eqb-true (h .left) 0 q)
-            at false false p q = record { time = O .same (time i) refl l ∙ M .same (time i) refl l ∙ H .time; deadline = O .same (deadline i) refl l ∙ M .same (deadline i) refl l ∙ H .deadline; left = mask-is e ∙ rw p; bytes = H .bytes }
+            at false false p q = record { time = O .reads (time i) refl l ∙ M .reads (time i) refl l ∙ H .time; deadline = O .reads (deadline i) refl l ∙ M .reads (deadline i) refl l ∙ H .deadline; left = mask-is e ∙ rw p; bytes = H .bytes }
 
     -- Steps 4 and 5 keep the relation.
     pub ended-rel : Rel B L (with-state B L r (back 256)) (e 256)
     ended-rel =
         let P = backs 256 (omega arith) in
         record {
-          settled = subst (Settled B L (back 256)) (sym (emptied-frame t 256 w)) (settled-places B L (e 256 .place) (e 256 .free) (P .settled));
+          settings = subst (SettingsShown B L (back 256)) (sym (emptied-frame t 256 w)) (settings-places B L (e 256 .place) (e 256 .free) (P .settings));
           whole = R .whole;
-          place = λ i l. subst (Here B L (with-state B L r (back 256)) i) (sym (emptied-place t w i l)) (ended-here i l);
+          place = λ i l. subst (SlotShows B L (with-state B L r (back 256)) i) (sym (emptied-place t w i l)) (ended-here i l);
           stack = P .stacked;
         }
 
@@ -216,8 +216,8 @@ module _ (B : Board) (L : Laws B) where
 
     module _ (p : ℕ) (hp : p < 5) where
       -- By cases of the place.
-      one-due : (i : ℕ) → i < 256 → (v : Option Held) → w .place i ≡ v → Here B L r i v → counted (has (get s (mask i)) p && isDueNow B s i) ≡ length (due t (waiting v p))
-      unfolding due waiting counted
+      one-due : (i : ℕ) → i < 256 → (v : Option Held) → w .place i ≡ v → SlotShows B L r i v → counted (has (get s (mask i)) p && isDueNow B s i) ≡ length (due t (toServe v p))
+      unfolding due toServe counted
       one-due i l none e h = rw (h, has-zero p hp)
       one-due i l (some h) e H = rw (H .left, due-here i l h e H) (go (has (h .left) p) (isDue t (h .packet)) refl)
         where
@@ -230,7 +230,7 @@ module _ (B : Board) (L : Laws B) where
       count-due : (n : ℕ) → n ≤ 256 → count n (λ i. has (get s (mask i)) p && isDueNow B s i) ≡ length (Whole.withdrawn t (w .place) p n)
       unfolding count Whole.withdrawn
       count-due zero l = refl
-      count-due (suc n) l = ap₂ (λ (a b : ℕ). a + b) (count-due n (omega arith)) (one-due n (omega arith) (w .place n) refl (R .place n (omega arith))) ∙ sym (length-append (Whole.withdrawn t (w .place) p n) (due t (waiting (w .place n) p)))
+      count-due (suc n) l = ap₂ (λ (a b : ℕ). a + b) (count-due n (omega arith)) (one-due n (omega arith) (w .place n) refl (R .place n (omega arith))) ∙ sym (length-append (Whole.withdrawn t (w .place) p n) (due t (toServe (w .place n) p)))
 
       -- And so from all.
       pub withdrawals-same : withdrawals B s p ≡ length (Whole.withdrawn t (w .place) p 256)

@@ -16,19 +16,19 @@ use Rattle.rules.specs.Clock.{cut, minus, offset}
 use Rattle.rules.specs.Demand3.{HeldShown}
 use Rattle.rules.specs.Indices.{least}
 use Rattle.rules.specs.Tick.{onTimeKey, earlyKey}
-use Rattle.rules.specs.Whole.{Packet, Held, Router, TickCall, withPlaces, waiting, filter, byDeadline, byTime, lose, packetBytes}
-use Rattle.rules.proofs.BoardLaws.{Laws, same}
+use Rattle.rules.specs.Whole.{Packet, Held, Router, TickCall, withPlaces, toServe, filter, byDeadline, byTime, lose, packetBytes}
+use Rattle.rules.proofs.BoardLaws.{Laws, sameField}
 use Rattle.rules.specs.Tick as Tick
 use Rattle.rules.specs.Whole as Whole
 use Rattle.rules.proofs.IndexLaws.{Keys, Least, least-same}
 use Rattle.rules.proofs.Integers.{diff-le, diff-gt, diff-lt}
 use Rattle.rules.proofs.Masks.{has-zero}
 use Rattle.rules.proofs.WholeLaws.{AllHeld}
-use Rattle.rules.proofs.Grants.{Rests, grant-rests, waiting-held}
-use Rattle.rules.proofs.Good.{Good, HeldFit, Input, after, serving, fit-then, served-kept}
-use Rattle.rules.proofs.TimeLaws.{fit-offset, fit-on-time, fit-early}
+use Rattle.rules.proofs.Grants.{Rests, grant-rests, toServe-held}
+use Rattle.rules.proofs.Good.{Good, HeldInWindow, Input, after, serving, window-then, served-kept}
+use Rattle.rules.proofs.TimeLaws.{window-offset, window-on-time, window-early}
 use Rattle.rules.proofs.StateLaws.{Reads, none-out, reads-self, reads-put, reads-off, stack-same}
-use Rattle.rules.proofs.Relation.{Here, Rel, with-state, rel-room, here-put, settled-places}
+use Rattle.rules.proofs.Relation.{SlotShows, Rel, with-state, rel-room, shows-put, settings-places}
 
 -- A grant without its packet.
 strip : Grant (ℕ × Packet) → Grant ℕ
@@ -53,7 +53,7 @@ without-zero p h = rw (has-zero p h)
 module _ (B : Board) (L : Laws B) where
   open Board B using (clockBytes as c, get, put)
 
-  module _ {r : Store} {w : Router} (R : Rel B L r w) (F : AllHeld (HeldFit c (w .clock) (half c)) (w .place)) (p : ℕ) (hp : p < 5) where
+  module _ {r : Store} {w : Router} (R : Rel B L r w) (F : AllHeld (HeldInWindow c (w .clock) (half c)) (w .place)) (p : ℕ) (hp : p < 5) where
     abbrev t : ℤ
     t = w .clock
 
@@ -61,7 +61,7 @@ module _ (B : Board) (L : Laws B) where
     s = r .state
 
     clock-same : get s clock ≡ cut (bits c) t
-    clock-same = R .settled .same clock refl (omega arith)
+    clock-same = R .settings .reads clock refl (omega arith)
 
     -- ---- the keys are in one order
 
@@ -80,33 +80,33 @@ module _ (B : Board) (L : Laws B) where
 
     -- Slots have a key where the port is left and b holds, packets where they pass the test: the least are at one index if each slot's are those of its packet.
     leasts : (of : Packet → ℤ) (test : Packet → Bool) (b : ℕ → Bool) (n : ℕ → ℕ) → ((i : ℕ) → i < 256 → (h : Held) → w .place i ≡ some h → HeldShown B r i h → (b i ≡ test (h .packet)) × (T (test (h .packet)) → Key of (n i) (h .packet)))
-        → Leasts of (least ltb (λ i. cond (has (get s (mask i)) p && b i) (some (n i)) none) 256) (least (less of) (λ i. filter test (waiting (w .place i) p)) 256)
-    unfolding filter waiting
-    leasts of test b n f = least-same ltb (less of) (Key of) (key-order of) (λ i. cond (has (get s (mask i)) p && b i) (some (n i)) none) (λ i. filter test (waiting (w .place i) p)) 256 (λ i l. go i (w .place i) (R .place i l) (f i l))
+        → Leasts of (least ltb (λ i. cond (has (get s (mask i)) p && b i) (some (n i)) none) 256) (least (less of) (λ i. filter test (toServe (w .place i) p)) 256)
+    unfolding filter toServe
+    leasts of test b n f = least-same ltb (less of) (Key of) (key-order of) (λ i. cond (has (get s (mask i)) p && b i) (some (n i)) none) (λ i. filter test (toServe (w .place i) p)) 256 (λ i l. go i (w .place i) (R .place i l) (f i l))
       where
         at : (i : ℕ) (h : Held) (a d : Bool) → test (h .packet) ≡ d → (T d → Key of (n i) (h .packet)) → Keys ltb (less of) (Key of) (key-order of) (cond (a && d) (some (n i)) none) (filter test (cond a (some (h .packet)) none))
         at i h true true e g = rw e (g tt)
         at i h true false e g = rw e tt
         at i h false d e g = tt
 
-        go : (i : ℕ) (v : Option Held) → Here B L r i v → ((h : Held) → v ≡ some h → HeldShown B r i h → (b i ≡ test (h .packet)) × (T (test (h .packet)) → Key of (n i) (h .packet)))
-            → Keys ltb (less of) (Key of) (key-order of) (cond (has (get s (mask i)) p && b i) (some (n i)) none) (filter test (waiting v p))
+        go : (i : ℕ) (v : Option Held) → SlotShows B L r i v → ((h : Held) → v ≡ some h → HeldShown B r i h → (b i ≡ test (h .packet)) × (T (test (h .packet)) → Key of (n i) (h .packet)))
+            → Keys ltb (less of) (Key of) (key-order of) (cond (has (get s (mask i)) p && b i) (some (n i)) none) (filter test (toServe v p))
         go i none h f = rw (h, has-zero p hp) tt
         go i (some h) H f = let (q, g) = f h refl H in rw (H .left, q) (at i h (has (h .left) p) (test (h .packet)) refl g)
 
     -- An on-time slot's key is its deadline less the clock.
-    on-time-least : Leasts (λ x. x .deadline) (least ltb (onTimeKey B s p) 256) (least byDeadline (λ i. filter (λ x. leZ (x .time) t) (waiting (w .place i) p)) 256)
+    on-time-least : Leasts (λ x. x .deadline) (least ltb (onTimeKey B s p) 256) (least byDeadline (λ i. filter (λ x. leZ (x .time) t) (toServe (w .place i) p)) 256)
     unfolding onTimeKey byDeadline
     on-time-least = leasts (λ x. x .deadline) (λ x. leZ (x .time) t) (λ i. leZ (offset (bits c) (get s (time i)) (get s clock)) (pos 0)) (λ i. minus (bits c) (get s (deadline i)) (get s clock)) (λ i m h e H.
-        let q = F i m h e .fit in
-        (rw (H .time, clock-same, fit-offset c t (h .packet) q) (diff-le (h .packet .time) t), λ z. rw (H .deadline, clock-same) (fit-on-time c t (h .packet) q z)))
+        let q = F i m h e .window in
+        (rw (H .time, clock-same, window-offset c t (h .packet) q) (diff-le (h .packet .time) t), λ z. rw (H .deadline, clock-same) (window-on-time c t (h .packet) q z)))
 
     -- An early slot's key is its time less the clock.
-    early-least : Leasts (λ x. x .time) (least ltb (earlyKey B s p) 256) (least byTime (λ i. filter (λ x. ltZ t (x .time)) (waiting (w .place i) p)) 256)
+    early-least : Leasts (λ x. x .time) (least ltb (earlyKey B s p) 256) (least byTime (λ i. filter (λ x. ltZ t (x .time)) (toServe (w .place i) p)) 256)
     unfolding earlyKey byTime
     early-least = leasts (λ x. x .time) (λ x. ltZ t (x .time)) (λ i. ltZ (pos 0) (offset (bits c) (get s (time i)) (get s clock))) (λ i. minus (bits c) (get s (time i)) (get s clock)) (λ i m h e H.
-        let q = F i m h e .fit in
-        (rw (H .time, clock-same, fit-offset c t (h .packet) q) (diff-gt (h .packet .time) t), λ z. rw (H .time, clock-same) (fit-early c t (h .packet) q z)))
+        let q = F i m h e .window in
+        (rw (H .time, clock-same, window-offset c t (h .packet) q) (diff-gt (h .packet .time) t), λ z. rw (H .time, clock-same) (window-early c t (h .packet) q z)))
 
     -- By cases of the two choices.
     granted-same : (h : ℕ) (o : Option (ℕ × ℕ)) (o′ : Option (ℕ × Packet)) → Leasts (λ x. x .deadline) o o′ → (b : Bool) (e : Option (ℕ × ℕ)) (e′ : Option (ℕ × Packet)) → Leasts (λ x. x .time) e e′
@@ -129,9 +129,9 @@ module _ (B : Board) (L : Laws B) where
     grant-same : (b : ℕ) → Tick.grant B s b p ≡ strip (Whole.grant w b p)
     unfolding Tick.grant Whole.grant
     grant-same b =
-        let o = least byDeadline (λ i. filter (λ x. leZ (x .time) t) (waiting (w .place i) p)) 256 in
-        let e = least byTime (λ i. filter (λ x. ltZ t (x .time)) (waiting (w .place i) p)) 256 in
-        rw (R .settled .same (horizon p) refl hp) (granted-same (w .horizon p) (least ltb (onTimeKey B s p) 256) o on-time-least (has b p) (least ltb (earlyKey B s p) 256) e early-least)
+        let o = least byDeadline (λ i. filter (λ x. leZ (x .time) t) (toServe (w .place i) p)) 256 in
+        let e = least byTime (λ i. filter (λ x. ltZ t (x .time)) (toServe (w .place i) p)) 256 in
+        rw (R .settings .reads (horizon p) refl hp) (granted-same (w .horizon p) (least ltb (onTimeKey B s p) 256) o on-time-least (has b p) (least ltb (earlyKey B s p) 256) e early-least)
 
     -- ---- a port is served
 
@@ -143,26 +143,26 @@ module _ (B : Board) (L : Laws B) where
       r′ = with-state B L r (put s (mask i) m)
 
       -- One store, read back.
-      stores : Reads B L none-out (put s (mask i) m) (λ f. cond (same (mask i) f) m (get s f))
-      stores = reads-put B L (reads-self B L s (R .settled .sized)) (mask i) m hi
+      stores : Reads B L none-out (put s (mask i) m) (λ f. cond (sameField (mask i) f) m (get s f))
+      stores = reads-put B L (reads-self B L s (R .settings .sized)) (mask i) m hi
 
       stored : get (put s (mask i) m) (mask i) ≡ m
-      stored = stores .same (mask i) refl hi ∙ rw (eq-eqb i i refl)
+      stored = stores .reads (mask i) refl hi ∙ rw (eq-eqb i i refl)
 
       -- Slot i shows the packet less the port.
-      lose-here : (v : Option Held) → Here B L r i v → Here B L r′ i (lose p v)
+      lose-here : (v : Option Held) → SlotShows B L r i v → SlotShows B L r′ i (lose p v)
       unfolding lose
       lose-here none e = stored ∙ ap (λ (m : ℕ). without m p) e ∙ without-zero p hp
-      lose-here (some h) H = record { time = stores .same (time i) refl hi ∙ H .time; deadline = stores .same (deadline i) refl hi ∙ H .deadline; left = stored ∙ ap (λ (m : ℕ). without m p) (H .left); bytes = H .bytes }
+      lose-here (some h) H = record { time = stores .reads (time i) refl hi ∙ H .time; deadline = stores .reads (deadline i) refl hi ∙ H .deadline; left = stored ∙ ap (λ (m : ℕ). without m p) (H .left); bytes = H .bytes }
 
       -- Slot i alone changes, and no setting.
       lose-rel : Rel B L r′ (withPlaces w (Whole.put (w .place) i (lose p (w .place i))) (w .free))
       lose-rel = record {
-        settled = settled-places B L (Whole.put (w .place) i (lose p (w .place i))) (w .free) (reads-off B L (R .settled) (mask i) m hi refl);
+        settings = settings-places B L (Whole.put (w .place) i (lose p (w .place i))) (w .free) (reads-off B L (R .settings) (mask i) m hi refl);
         whole = R .whole;
-        place = here-put B L R i (lose p (w .place i)) (lose-here (w .place i) (R .place i hi)) (λ q hq n.
-            record { time = stores .same (time q) refl hq; deadline = stores .same (deadline q) refl hq; mask = stores .same (mask q) refl hq ∙ rw (ne-eqb i q (λ e. n (sym e))); bytes = refl });
-        stack = stack-same B L s (r′ .state) (rel-room B L R K) (stores .same free refl (omega arith)) (λ j l. stores .same (idle j) refl l) ∙ R .stack;
+        place = shows-put B L R i (lose p (w .place i)) (lose-here (w .place i) (R .place i hi)) (λ q hq n.
+            record { time = stores .reads (time q) refl hq; deadline = stores .reads (deadline q) refl hq; mask = stores .reads (mask q) refl hq ∙ rw (ne-eqb i q (λ e. n (sym e))); bytes = refl });
+        stack = stack-same B L s (r′ .state) (rel-room B L R K) (stores .reads free refl (omega arith)) (λ j l. stores .reads (idle j) refl l) ∙ R .stack;
       }
 
     -- By cases of the grant.
@@ -178,10 +178,10 @@ module _ (B : Board) (L : Laws B) where
     served-step b K = rw (grant-same b) (sent-rel (Whole.grant w b p) (grant-rests w b p) K)
 
     -- What goes out is the packet granted.
-    shown-bytes : (i : ℕ) (x : Packet) → i < 256 → waiting (w .place i) p ≡ some x → packet (r .memory) i ≡ packetBytes c x
+    shown-bytes : (i : ℕ) (x : Packet) → i < 256 → toServe (w .place i) p ≡ some x → packet (r .memory) i ≡ packetBytes c x
     shown-bytes i x hi e =
-        let (h, ev, ex, z) = waiting-held (w .place i) p x e in
-        let H : HeldShown B r i h = subst (Here B L r i) ev (R .place i hi) in
+        let (h, ev, ex, z) = toServe-held (w .place i) p x e in
+        let H : HeldShown B r i h = subst (SlotShows B L r i) ev (R .place i hi) in
         H .bytes ∙ ap (packetBytes c) ex
 
     -- A granted packet rests at its place.
@@ -205,17 +205,17 @@ module _ (B : Board) (L : Laws B) where
     pub served-rel : (p : ℕ) → p ≤ 5 → Rel B L (with-state B L r (Tick.served B p b (r .state))) (then p)
     unfolding Tick.served Whole.served
     served-rel zero l = R
-    served-rel (suc p) l = served-step (served-rel p (omega arith)) (fit-then c w call G I p (omega arith)) p (omega arith) b (served-kept c w call G I p)
+    served-rel (suc p) l = served-step (served-rel p (omega arith)) (window-then c w call G I p (omega arith)) p (omega arith) b (served-kept c w call G I p)
 
     module _ (p : ℕ) (hp : p < 5) where
       served-grant : Tick.grant B (Tick.served B p b (r .state)) b p ≡ strip (Whole.grant (then p) b p)
-      served-grant = grant-same (served-rel p (omega arith)) (fit-then c w call G I p (omega arith)) p hp b
+      served-grant = grant-same (served-rel p (omega arith)) (window-then c w call G I p (omega arith)) p hp b
 
       -- The bytes of port p are equal.
       pub served-bytes : Tick.grantBytes (r .memory) (Tick.grant B (Tick.served B p b (r .state)) b p) ≡ Whole.grantBytes c (Whole.grant (then p) b p)
       served-bytes =
           ap (Tick.grantBytes (r .memory)) served-grant
-          ∙ strip-bytes (served-rel p (omega arith)) (fit-then c w call G I p (omega arith)) p hp (Whole.grant (then p) b p) (grant-rests (then p) b p)
+          ∙ strip-bytes (served-rel p (omega arith)) (window-then c w call G I p (omega arith)) p hp (Whole.grant (then p) b p) (grant-rests (then p) b p)
 
       -- The answer of port p is equal.
       pub served-code : grantCode (Tick.grant B (Tick.served B p b (r .state)) b p) ≡ grantCode (Whole.grant (then p) b p)

@@ -66,19 +66,19 @@ module _ (B : Board) (L : Laws B) where
   open Board B using (clockBytes as c, get)
 
   -- The state shows the settings of the router.
-  abbrev pub Settled : List ℕ → Router → Type 0
-  Settled s w = Reads B L inner s (shown c w)
+  abbrev pub SettingsShown : List ℕ → Router → Type 0
+  SettingsShown s w = Reads B L inner s (shown c w)
 
   -- Places and free list are no settings.
-  pub settled-places : {s : List ℕ} {w : Router} (f : ℕ → Option Held) (l : List ℕ) → Settled s w → Settled s (withPlaces w f l)
-  settled-places {s} {w} f l S = reads-as B L S (on-settings (shown c w) (shown c (withPlaces w f l)) refl (λ p h. refl) (λ q h. refl) (λ i h. (refl, refl, refl)))
+  pub settings-places : {s : List ℕ} {w : Router} (f : ℕ → Option Held) (l : List ℕ) → SettingsShown s w → SettingsShown s (withPlaces w f l)
+  settings-places {s} {w} f l S = reads-as B L S (on-settings (shown c w) (shown c (withPlaces w f l)) refl (λ p h. refl) (λ q h. refl) (λ i h. (refl, refl, refl)))
 
   -- ---- places
 
   -- A slot shows a place; it may hold a packet with no port left.
-  abbrev pub Here : Store → ℕ → Option Held → Type 0
-  Here r i none = get (r .state) (mask i) ≡ 0
-  Here r i (some x) = HeldShown B r i x
+  abbrev pub SlotShows : Store → ℕ → Option Held → Type 0
+  SlotShows r i none = get (r .state) (mask i) ≡ 0
+  SlotShows r i (some x) = HeldShown B r i x
 
   -- Slot i and its memory are in r′ as in r.
   pub record Untouched (r r′ : Store) (i : ℕ) : Type 0 where
@@ -88,17 +88,17 @@ module _ (B : Board) (L : Laws B) where
     pub bytes : packet (r′ .memory) i ≡ packet (r .memory) i
 
   -- Such a slot shows what it did.
-  here-same : {r r′ : Store} {i : ℕ} (v : Option Held) → Untouched r r′ i → Here r i v → Here r′ i v
-  here-same none U h = U .mask ∙ h
-  here-same (some x) U h = record { time = U .time ∙ h .time; deadline = U .deadline ∙ h .deadline; left = U .mask ∙ h .left; bytes = U .bytes ∙ h .bytes }
+  shows-same : {r r′ : Store} {i : ℕ} (v : Option Held) → Untouched r r′ i → SlotShows r i v → SlotShows r′ i v
+  shows-same none U h = U .mask ∙ h
+  shows-same (some x) U h = record { time = U .time ∙ h .time; deadline = U .deadline ∙ h .deadline; left = U .mask ∙ h .left; bytes = U .bytes ∙ h .bytes }
 
   -- ---- the relation
 
   -- State and memory show the router.
   pub record Rel (r : Store) (w : Router) : Type 0 where
-    pub settled : Settled (r .state) w
+    pub settings : SettingsShown (r .state) w
     pub whole : length (r .memory) ≡ 5120
-    pub place : (i : ℕ) → i < 256 → Here r i (w .place i)
+    pub place : (i : ℕ) → i < 256 → SlotShows r i (w .place i)
     pub stack : stack B (r .state) ≡ w .free
 
   -- The store with another state.
@@ -115,20 +115,20 @@ module _ (B : Board) (L : Laws B) where
     rel-room K = let e = rel-free in let k = kept-room K in omega arith
 
     -- Where slot j alone changed, and shows v, each slot shows its place.
-    pub here-put : {r′ : Store} (j : ℕ) (v : Option Held) → Here r′ j v → ((q : ℕ) → q < 256 → q ≢ j → Untouched r r′ q) → (q : ℕ) → q < 256 → Here r′ q (put (w .place) j v q)
-    here-put {r′} j v h U q l = go (ℕ-discrete q j)
+    pub shows-put : {r′ : Store} (j : ℕ) (v : Option Held) → SlotShows r′ j v → ((q : ℕ) → q < 256 → q ≢ j → Untouched r r′ q) → (q : ℕ) → q < 256 → SlotShows r′ q (put (w .place) j v q)
+    shows-put {r′} j v h U q l = go (ℕ-discrete q j)
       where
-        go : Dec (q ≡ j) → Here r′ q (put (w .place) j v q)
-        go (yes e) = subst (λ (q : ℕ). Here r′ q (put (w .place) j v q)) (sym e) (subst (Here r′ j) (sym (put-same (w .place) j v)) h)
-        go (no n) = subst (Here r′ q) (sym (put-other (w .place) j v q n)) (here-same (w .place q) (U q l n) (R .place q l))
+        go : Dec (q ≡ j) → SlotShows r′ q (put (w .place) j v q)
+        go (yes e) = subst (λ (q : ℕ). SlotShows r′ q (put (w .place) j v q)) (sym e) (subst (SlotShows r′ j) (sym (put-same (w .place) j v)) h)
+        go (no n) = subst (SlotShows r′ q) (sym (put-other (w .place) j v q n)) (shows-same (w .place q) (U q l n) (R .place q l))
 
     -- Where only settings change, places and stack stay.
-    pub rel-settings : {s′ : List ℕ} {w′ : Router} → Kept (w .place) (w .free) → Settled s′ w′ → Reads B L outer s′ (get (r .state)) → w′ .place ≡ w .place → w′ .free ≡ w .free → Rel (with-state r s′) w′
+    pub rel-settings : {s′ : List ℕ} {w′ : Router} → Kept (w .place) (w .free) → SettingsShown s′ w′ → Reads B L outer s′ (get (r .state)) → w′ .place ≡ w .place → w′ .free ≡ w .free → Rel (with-state r s′) w′
     rel-settings {s′} {w′} K S O ep ef = record {
-      settled = S;
+      settings = S;
       whole = R .whole;
       place = λ i l.
-          here-same (w′ .place i) (record { time = O .same (time i) refl l; deadline = O .same (deadline i) refl l; mask = O .same (mask i) refl l; bytes = refl })
-          (subst (λ f. Here r i (f i)) (sym ep) (R .place i l));
-      stack = stack-same B L (r .state) s′ (rel-room K) (O .same free refl (omega arith)) (λ i l. O .same (idle i) refl l) ∙ R .stack ∙ sym ef;
+          shows-same (w′ .place i) (record { time = O .reads (time i) refl l; deadline = O .reads (deadline i) refl l; mask = O .reads (mask i) refl l; bytes = refl })
+          (subst (λ f. SlotShows r i (f i)) (sym ep) (R .place i l));
+      stack = stack-same B L (r .state) s′ (rel-room K) (O .reads free refl (omega arith)) (λ i l. O .reads (idle i) refl l) ∙ R .stack ∙ sym ef;
     }

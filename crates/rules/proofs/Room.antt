@@ -14,7 +14,7 @@ use Rattle.rules.specs.Board.{Board, free, idle, time, deadline, mask, d
 use Rattle.rules.specs.Clock.{plus}
 use Rattle.rules.specs.Indices.{count, counted}
 use Rattle.rules.specs.Questions.{stack, stackSound}
-use Rattle.rules.specs.SoundKept.{held, used}
+use Rattle.rules.specs.SoundKept.{occupied, used}
 use Rattle.rules.specs.Tick.{placed}
 use Rattle.rules.proofs.Booleans.{and-left, and-right, not-false}
 use Rattle.rules.proofs.BoardLaws.{Laws}
@@ -91,7 +91,7 @@ module _ (B : Board) (L : Laws B) where
   pub placed-used : (r : Store) (k : List ℕ) → length (r .state) ≡ stateLength → 0 < get (r .state) free → get (r .state) (idle (get (r .state) free - 1)) < 256 → used B (placed B r k .state) ≤ used B (r .state)
   unfolding placed
   placed-used r k sized some hi =
-      let more = count-one-more (held B s₄) (held B s) i 256 (λ j l n. ap (λ (m : ℕ). not (eqb m 0)) (mask-other j l n)) in
+      let more = count-one-more (occupied B s₄) (occupied B s) i 256 (λ j l n. ap (λ (m : ℕ). not (eqb m 0)) (mask-other j l n)) in
       omega (arith, free-is)
     where
       s : List ℕ

@@ -10,24 +10,24 @@ use lib.Dec.{T, eqb}
 use lib.IntN.{ℤ, pos, _-ℤ_}
 use lib.Signed.{leZ, ltZ, _≤ℤ_}
 use borrow.Author.Tests.{eq-eqb, eqb-true}
-use Rattle.rules.specs.Account.{Done, same, isSent, times, isLeft, leftOn, sentOn, withdrawnOn, Accepted, Lawful, Genuine}
+use Rattle.rules.specs.Account.{NotedTick, samePacket, isSent, times, isLeft, leftOn, sentOn, withdrawnOn, Accepted, Permitted, Genuine}
 use Rattle.rules.specs.Areas.{packet, Grant, nobody, bestEffort, onTime, early}
 use Rattle.rules.specs.Indices.{count, counted}
-use Rattle.rules.specs.Whole.{Packet, Held, Router, withPlaces, Arrival, absent, refused, accepted, waiting, grant, isDue, due, withdrawn, meets, ticked, Report, packetBytes, grantBytes}
+use Rattle.rules.specs.Whole.{Packet, Held, Router, withPlaces, Arrival, absent, refused, accepted, toServe, grant, isDue, due, withdrawn, meets, ticked, Report, packetBytes, grantBytes}
 use Rattle.rules.proofs.Booleans.{none-some, and-left, and-right, is-true, true-is, false-is}
 use Rattle.rules.proofs.IndexLaws.{count-none, count-only, count-some}
 use Rattle.rules.proofs.Integers.{orders, diff-nat, antisym, later-differs}
 use Rattle.rules.proofs.WholeLaws.{AllHeld, emptied-held}
-use Rattle.rules.proofs.Grants.{Rests, grant-rests, waiting-held}
-use Rattle.rules.proofs.Good.{Good, after, after-all, accepted-made, serving, clock-at, served-all, served-fit, served-frame}
+use Rattle.rules.proofs.Grants.{Rests, grant-rests, toServe-held}
+use Rattle.rules.proofs.Good.{Good, after, after-all, accepted-passed, serving, clock-at, served-all, served-window, served-frame}
 use Rattle.rules.proofs.Accounting.{taken, for-port, tick-left}
 use Rattle.rules.proofs.Runs.{next, Ticking, Run, rest, quiet, ticks, moment, over, after-tick, same-tick}
 
 -- ---- packets that are the same
 
 -- The same packet has the same tick and port of arrival.
-same-keys : (x y : Packet) → same x y ≡ true → (x .arrived ≡ y .arrived) × (x .input ≡ y .input)
-unfolding same
+same-keys : (x y : Packet) → samePacket x y ≡ true → (x .arrived ≡ y .arrived) × (x .input ≡ y .input)
+unfolding samePacket
 same-keys x y e =
     let a = leZ (x .arrived) (y .arrived) in
     let b = leZ (y .arrived) (x .arrived) in
@@ -36,32 +36,32 @@ same-keys x y e =
     (antisym (x .arrived) (y .arrived) (is-true a (and-left a b f)) (is-true b (and-right a b f)), eqb-true (x .input) (y .input) (and-right (a && b) d e))
 
 -- A packet is the same as itself.
-pub same-self : (x : Packet) → same x x ≡ true
-unfolding same
+pub same-self : (x : Packet) → samePacket x x ≡ true
+unfolding samePacket
 same-self x = rw (true-is (leZ (x .arrived) (x .arrived)) (omega (arith, orders)), eq-eqb (x .input) (x .input) refl)
 
 -- What differs in tick or port is not the same.
-differs : (x y : Packet) → (x .arrived ≡ y .arrived → x .input ≡ y .input → ⊥) → same x y ≡ false
-differs x y n = false-is (same x y) (λ h. let (a, b) = same-keys x y (true-is (same x y) h) in n a b)
+differs : (x y : Packet) → (x .arrived ≡ y .arrived → x .input ≡ y .input → ⊥) → samePacket x y ≡ false
+differs x y n = false-is (samePacket x y) (λ h. let (a, b) = same-keys x y (true-is (samePacket x y) h) in n a b)
 
 -- Of a list, some packet is the same as x.
-times-some : (x : Packet) (l : List Packet) → 0 < times x l → (y : Packet) × List·Memᴰ y l × (same x y ≡ true)
+times-some : (x : Packet) (l : List Packet) → 0 < times x l → (y : Packet) × List·Memᴰ y l × (samePacket x y ≡ true)
 unfolding times counted
 times-some x [] n = absurd (omega arith)
-times-some x (y ∷ l) n = go (same x y) refl n (λ k. times-some x l k)
+times-some x (y ∷ l) n = go (samePacket x y) refl n (λ k. times-some x l k)
   where
-    go : (t : Bool) → same x y ≡ t → 0 < cond t 1 0 + times x l → (0 < times x l → (z : Packet) × List·Memᴰ z l × (same x z ≡ true)) → (z : Packet) × List·Memᴰ z (y ∷ l) × (same x z ≡ true)
+    go : (t : Bool) → samePacket x y ≡ t → 0 < cond t 1 0 + times x l → (0 < times x l → (z : Packet) × List·Memᴰ z l × (samePacket x z ≡ true)) → (z : Packet) × List·Memᴰ z (y ∷ l) × (samePacket x z ≡ true)
     go true e n f = (y, List·Memᴰ·head refl, e)
     go false e n f = let (z, m, q) = f (omega arith) in (z, List·Memᴰ·tail m, q)
 
 -- What is left is the same as x.
-pub left-x : (x : Packet) (v : Option Packet) → isLeft x v ≡ true → (y : Packet) × (v ≡ some y) × (same x y ≡ true)
+pub left-x : (x : Packet) (v : Option Packet) → isLeft x v ≡ true → (y : Packet) × (v ≡ some y) × (samePacket x y ≡ true)
 unfolding isLeft
 left-x x none e = absurd (true≢false (sym e))
 left-x x (some y) e = (y, refl, e)
 
 -- A withdrawn packet is held at a place with the port left, and due.
-withdrawn-held : (t : ℤ) (f : ℕ → Option Held) (p n : ℕ) (x : Packet) → List·Memᴰ x (withdrawn t f p n) → (i : ℕ) × (i < n) × (waiting (f i) p ≡ some x) × (isDue t x ≡ true)
+withdrawn-held : (t : ℤ) (f : ℕ → Option Held) (p n : ℕ) (x : Packet) → List·Memᴰ x (withdrawn t f p n) → (i : ℕ) × (i < n) × (toServe (f i) p ≡ some x) × (isDue t x ≡ true)
 unfolding withdrawn due
 withdrawn-held t f p zero x m = absurd (List·Memᴰ·not-nil m)
 withdrawn-held t f p (suc n) x m = go (List·Memᴰ·append-cases (withdrawn t f p n) m) (λ k. withdrawn-held t f p n x k)
@@ -74,23 +74,23 @@ withdrawn-held t f p (suc n) x m = go (List·Memᴰ·append-cases (withdrawn t f
         at true e m = let q = List·Memᴰ·eq-of-singleton m in (ap some (sym q), ap (isDue t) q ∙ e)
         at false e m = absurd (List·Memᴰ·not-nil m)
 
-    go : List·Memᴰ x (withdrawn t f p n) ⊎ List·Memᴰ x (due t (waiting (f n) p)) → (List·Memᴰ x (withdrawn t f p n) → (i : ℕ) × (i < n) × (waiting (f i) p ≡ some x) × (isDue t x ≡ true))
-        → (i : ℕ) × (i < suc n) × (waiting (f i) p ≡ some x) × (isDue t x ≡ true)
+    go : List·Memᴰ x (withdrawn t f p n) ⊎ List·Memᴰ x (due t (toServe (f n) p)) → (List·Memᴰ x (withdrawn t f p n) → (i : ℕ) × (i < n) × (toServe (f i) p ≡ some x) × (isDue t x ≡ true))
+        → (i : ℕ) × (i < suc n) × (toServe (f i) p ≡ some x) × (isDue t x ≡ true)
     go (inl k) g = let (i, l, a, b) = g k in (i, omega arith, a, b)
-    go (inr k) g = let (a, b) = one (waiting (f n) p) k in (n, omega arith, a, b)
+    go (inr k) g = let (a, b) = one (toServe (f n) p) k in (n, omega arith, a, b)
 
 module _ (c : ℕ) where
   -- ---- one tick
 
   -- x was accepted by the tick d.
-  abbrev Taken : Done → Packet → Type 0
+  abbrev Taken : NotedTick → Packet → Type 0
   Taken d x = (q : ℕ) × (q < 5) × (d .report .arrival q ≡ accepted x) × (x .arrived ≡ d .met .clock) × (x .input ≡ q)
 
   -- Sent in its window and under its header.
-  abbrev Sent : Done → ℕ → Packet → Type 0
+  abbrev Sent : NotedTick → ℕ → Packet → Type 0
   Sent d p x = (x .arrived ≤ℤ d .met .clock) × ((x .time -ℤ pos (d .met .horizon p)) ≤ℤ d .met .clock) × (d .met .clock ≤ℤ x .deadline) × (packet (d .outgoing) p ≡ packetBytes c x)
 
-  module _ {d : Done} (t : Ticking c d) where
+  module _ {d : NotedTick} (t : Ticking c d) where
     abbrev r : Router
     r = d .met
 
@@ -117,11 +117,11 @@ module _ (c : ℕ) where
     -- An accepted packet bears the clock and the port of its tick.
     dated : (q : ℕ) (y : Packet) → d .report .arrival q ≡ accepted y → (y .arrived ≡ r .clock) × (y .input ≡ q)
     dated q y e =
-        let m = accepted-made c r (d .call) q y (sym (arrival-is q) ∙ e) in
-        (sym (ap (λ (z : Packet). z .arrived) (m .is)), sym (ap (λ (z : Packet). z .input) (m .is)))
+        let m = accepted-passed c r (d .call) q y (sym (arrival-is q) ∙ e) in
+        (sym (ap (λ (z : Packet). z .arrived) (m .packet)), sym (ap (λ (z : Packet). z .input) (m .packet)))
 
     -- An arrival that brings no packet the same as x takes none.
-    untaken : (m : Packet → Bool) (x : Packet) (q : ℕ) → ((y : Packet) → d .report .arrival q ≡ accepted y → same x y ≡ false) → taken m x (d .report .arrival q) ≡ false
+    untaken : (m : Packet → Bool) (x : Packet) (q : ℕ) → ((y : Packet) → d .report .arrival q ≡ accepted y → samePacket x y ≡ false) → taken m x (d .report .arrival q) ≡ false
     unfolding taken
     untaken m x q n = go (d .report .arrival q) refl
       where
@@ -151,11 +151,11 @@ module _ (c : ℕ) where
     -- ---- what it may do with a packet
 
     -- What waits fits the clock.
-    pub fit-at : (p q : ℕ) → q ≤ 5 → (i : ℕ) (x : Packet) → i < 256 → waiting (then q .place i) p ≡ some x → T (leZ (x .arrived) (r .clock)) × T (leZ (r .clock) (x .deadline))
-    fit-at p q hq i x l e =
-        let (h, ev, ex, b) = waiting-held (then q .place i) p x e in
-        let f = served-fit c r (d .call) (t .good) (t .input) q hq i l h ev in
-        (subst (λ (y : Packet). T (leZ (y .arrived) (r .clock))) ex (f .fit .arrived), subst (λ (y : Packet). T (leZ (r .clock) (y .deadline))) ex (f .fit .due))
+    pub window-at : (p q : ℕ) → q ≤ 5 → (i : ℕ) (x : Packet) → i < 256 → toServe (then q .place i) p ≡ some x → T (leZ (x .arrived) (r .clock)) × T (leZ (r .clock) (x .deadline))
+    window-at p q hq i x l e =
+        let (h, ev, ex, b) = toServe-held (then q .place i) p x e in
+        let f = served-window c r (d .call) (t .good) (t .input) q hq i l h ev in
+        (subst (λ (y : Packet). T (leZ (y .arrived) (r .clock))) ex (f .window .arrived), subst (λ (y : Packet). T (leZ (r .clock) (y .deadline))) ex (f .window .due))
 
     -- A granted packet rests at its place, by the clock and horizon met.
     rests : (p : ℕ) (g : Grant (ℕ × Packet)) → d .report .grant p ≡ g → Rests (router-at p) p g
@@ -167,7 +167,7 @@ module _ (c : ℕ) where
       unfolding grantBytes
       sent-on-time e =
           let (l, v, k) = rests p (onTime (i, x)) e in
-          let (s, a) = fit-at p p (omega arith) i x l v in
+          let (s, a) = window-at p p (omega arith) i x l v in
           (record { le = s }, record { le = omega (arith, orders, diff-nat (x .time) (pos (r .horizon p))) }, record { le = a }, t .sends p hp ∙ ap (grantBytes c) e)
 
       -- It is within the horizon.
@@ -175,18 +175,18 @@ module _ (c : ℕ) where
       unfolding grantBytes
       sent-early e =
           let (l, v, b, k) = rests p (early (i, x)) e in
-          let (s, a) = fit-at p p (omega arith) i x l v in
+          let (s, a) = window-at p p (omega arith) i x l v in
           (record { le = s }, record { le = omega (arith, orders, diff-nat (x .time) (r .clock), diff-nat (x .time) (pos (r .horizon p))) }, record { le = a }, t .sends p hp ∙ ap (grantBytes c) e)
 
     -- A withdrawn packet waits, and is due.
-    withdrawn-at : (p : ℕ) (x : Packet) → List·Memᴰ x (d .report .withdrawn p) → (i : ℕ) × (i < 256) × (waiting (then 5 .place i) p ≡ some x) × (isDue (then 5 .clock) x ≡ true)
+    withdrawn-at : (p : ℕ) (x : Packet) → List·Memᴰ x (d .report .withdrawn p) → (i : ℕ) × (i < 256) × (toServe (then 5 .place i) p ≡ some x) × (isDue (then 5 .clock) x ≡ true)
     withdrawn-at p x m = withdrawn-held (then 5 .clock) (then 5 .place) p 256 x (subst (List·Memᴰ x) (withdrawn-is p) m)
 
     withdrawn-due : (p : ℕ) (x : Packet) → List·Memᴰ x (d .report .withdrawn p) → (x .arrived ≤ℤ r .clock) × (r .clock ≡ x .deadline)
     unfolding isDue
     withdrawn-due p x m =
         let (i, l, v, b) = withdrawn-at p x m in
-        let (s, a) = fit-at p 5 (omega arith) i x l v in
+        let (s, a) = window-at p 5 (omega arith) i x l v in
         let z = then 5 .clock in
         let f = and-left (leZ (x .deadline) z) (leZ z (x .deadline)) b in
         let g = and-right (leZ (x .deadline) z) (leZ z (x .deadline)) b in
@@ -206,24 +206,24 @@ module _ (c : ℕ) where
       unfolding ticked
       ended-known i l h e = served-known 5 (omega arith) i l h (emptied-held (then 5 .clock) (then 5) i l h e .0)
 
-      waiting-known : (q : ℕ) → q ≤ 5 → (i p : ℕ) (x : Packet) → i < 256 → waiting (then q .place i) p ≡ some x → K x
-      waiting-known q hq i p x l e = let (h, ev, ex, b) = waiting-held (then q .place i) p x e in subst K ex (served-known q hq i l h ev)
+      toServe-known : (q : ℕ) → q ≤ 5 → (i p : ℕ) (x : Packet) → i < 256 → toServe (then q .place i) p ≡ some x → K x
+      toServe-known q hq i p x l e = let (h, ev, ex, b) = toServe-held (then q .place i) p x e in subst K ex (served-known q hq i l h ev)
 
   -- ---- the ticks of a run
 
   -- A run ends in a good router.
-  pub run-good : {r w : Router} {h : List Done} → Run c r h w → Good c w
+  pub run-good : {r w : Router} {h : List NotedTick} → Run c r h w → Good c w
   run-good (rest G) = G
   run-good (quiet ec ep R) = run-good R
   run-good (ticks d t R) = run-good R
 
   -- How often the ticks accepted x, counted where m holds.
-  unfoldable pub acceptedOn : (Packet → Bool) → Packet → List Done → ℕ
+  unfoldable pub acceptedOn : (Packet → Bool) → Packet → List NotedTick → ℕ
   acceptedOn m x [] = 0
   acceptedOn m x (d ∷ ds) = count 5 (λ q. taken m x (d .report .arrival q)) + acceptedOn m x ds
 
   -- Sent, withdrawn and left are what was accepted and what was left: by induction over the run.
-  pub conserve : (p : ℕ) → p < 5 → (x : Packet) {r w : Router} {h : List Done} → Run c r h w → sentOn p x h + withdrawnOn p x h + leftOn p x (w .place) ≡ acceptedOn (for-port p) x h + leftOn p x (r .place)
+  pub conserve : (p : ℕ) → p < 5 → (x : Packet) {r w : Router} {h : List NotedTick} → Run c r h w → sentOn p x h + withdrawnOn p x h + leftOn p x (w .place) ≡ acceptedOn (for-port p) x h + leftOn p x (r .place)
   unfolding sentOn withdrawnOn acceptedOn
   conserve p hp x (rest G) = omega arith
   conserve p hp x (quiet ec ep R) = let a = conserve p hp x R in let e = ap (leftOn p x) ep in omega arith
@@ -231,13 +231,13 @@ module _ (c : ℕ) where
 
   module _ (m : Packet → Bool) (x : Packet) where
     -- By induction over the first list.
-    pub accepted-append : (a b : List Done) → acceptedOn m x (a ++ b) ≡ acceptedOn m x a + acceptedOn m x b
+    pub accepted-append : (a b : List NotedTick) → acceptedOn m x (a ++ b) ≡ acceptedOn m x a + acceptedOn m x b
     unfolding acceptedOn
     accepted-append [] b = omega arith
     accepted-append (d ∷ a) b = let k = accepted-append a b in omega arith
 
     -- Ticks at other clocks accept no x.
-    none-accepted : (h : List Done) → ((d : Done) → List·Memᴰ d h → Ticking c d × (x .arrived ≢ d .met .clock)) → acceptedOn m x h ≡ 0
+    none-accepted : (h : List NotedTick) → ((d : NotedTick) → List·Memᴰ d h → Ticking c d × (x .arrived ≢ d .met .clock)) → acceptedOn m x h ≡ 0
     unfolding acceptedOn
     none-accepted [] f = refl
     none-accepted (d ∷ h) f =
@@ -247,7 +247,7 @@ module _ (c : ℕ) where
         omega arith
 
     -- An accepted packet is accepted once, in its own tick: every other has another clock.
-    pub once : {r w : Router} {h : List Done} → Run c r h w → Accepted h x → acceptedOn m x h ≡ counted (m x)
+    pub once : {r w : Router} {h : List NotedTick} → Run c r h w → Accepted h x → acceptedOn m x h ≡ counted (m x)
     unfolding acceptedOn Accepted
     once R (d, q, k, l, e, f, i) =
         let M = moment c R k in
@@ -255,29 +255,29 @@ module _ (c : ℕ) where
         let a = none-accepted (M .before) (λ g n. (moment c (M .past) n .tick, λ z. later-differs (g .met .clock) t (over c (M .past) n) (sym z ∙ f))) in
         let b = none-accepted (M .later) (λ g n. (moment c (M .future) n .tick, λ z. later-differs t (g .met .clock) (after-tick c d (M .future) n) (sym f ∙ z))) in
         let o = one-taken (M .tick) m x q l e in
-        let s = ap (acceptedOn m x) (M .is) ∙ accepted-append (M .before) (d ∷ M .later) in
+        let s = ap (acceptedOn m x) (M .parts) ∙ accepted-append (M .before) (d ∷ M .later) in
         omega arith
 
   -- Two accepted packets that are the same are equal: they came in one tick, at one port.
-  pub unique : {r w : Router} {h : List Done} → Run c r h w → (x y : Packet) → Accepted h x → Accepted h y → same x y ≡ true → x ≡ y
+  pub unique : {r w : Router} {h : List NotedTick} → Run c r h w → (x y : Packet) → Accepted h x → Accepted h y → samePacket x y ≡ true → x ≡ y
   unfolding Accepted
   unique R x y (d, q, m, l, e, f, i) (d′, q′, m′, l′, e′, f′, i′) s =
       let (a, b) = same-keys x y s in
       let k : d ≡ d′ = same-tick c R m m′ (sym f ∙ a ∙ f′) in
       let j : q ≡ q′ = sym i ∙ b ∙ i′ in
-      let z : accepted x ≡ accepted y = sym e ∙ ap₂ (λ (d : Done) (q : ℕ). d .report .arrival q) k j ∙ e′ in
+      let z : accepted x ≡ accepted y = sym e ∙ ap₂ (λ (d : NotedTick) (q : ℕ). d .report .arrival q) k j ∙ e′ in
       cc
 
   -- What is known of what is held at first, and of what the ticks accept, is known of what is held at the end.
-  held-known : {r w : Router} {h : List Done} (K : Packet → Type 0) → Run c r h w → ((d : Done) → List·Memᴰ d h → (x : Packet) → Taken d x → K x) → AllHeld (λ y. K (y .packet)) (r .place) → AllHeld (λ y. K (y .packet)) (w .place)
+  held-known : {r w : Router} {h : List NotedTick} (K : Packet → Type 0) → Run c r h w → ((d : NotedTick) → List·Memᴰ d h → (x : Packet) → Taken d x → K x) → AllHeld (λ y. K (y .packet)) (r .place) → AllHeld (λ y. K (y .packet)) (w .place)
   held-known K (rest G) f a = a
   held-known K (quiet ec ep R) f a = held-known K R f (subst (AllHeld (λ y. K (y .packet))) (sym ep) a)
   held-known K (ticks d t R) f a = held-known K R (λ e m. f e (List·Memᴰ·tail m)) (ended-known t K (f d (List·Memᴰ·head refl)) a)
 
   -- ---- the accounts of a run from an empty router
 
-  module _ {r w : Router} {h : List Done} (R : Run c r h w) (empty : (i : ℕ) → r .place i ≡ none) where
-    now-accepted : (d : Done) → List·Memᴰ d h → (x : Packet) → Taken d x → Accepted h x
+  module _ {r w : Router} {h : List NotedTick} (R : Run c r h w) (empty : (i : ℕ) → r .place i ≡ none) where
+    now-accepted : (d : NotedTick) → List·Memᴰ d h → (x : Packet) → Taken d x → Accepted h x
     unfolding Accepted
     now-accepted d m x (q, l, e, f, i) = (d, q, m, l, e, f, i)
 
@@ -287,44 +287,44 @@ module _ (c : ℕ) where
 
     -- Nothing is left on any port at first.
     pub left-nothing : (p : ℕ) (x : Packet) → leftOn p x (r .place) ≡ 0
-    unfolding leftOn isLeft waiting
-    left-nothing p x = count-none (λ i. isLeft x (waiting (r .place i) p)) 256 (λ i l. ap (λ v. isLeft x (waiting v p)) (empty i))
+    unfolding leftOn isLeft toServe
+    left-nothing p x = count-none (λ i. isLeft x (toServe (r .place i) p)) 256 (λ i l. ap (λ v. isLeft x (toServe v p)) (empty i))
 
     -- What is held was accepted.
     pub held-accepted : (i : ℕ) → i < 256 → (x : Held) → w .place i ≡ some x → Accepted h (x .packet)
     held-accepted = held-known (Accepted h) R now-accepted nothing-held
 
     -- And so is what waits while a tick serves its ports.
-    pub waiting-accepted : (d : Done) → List·Memᴰ d h → (q : ℕ) → q ≤ 5 → (i p : ℕ) (x : Packet) → i < 256 → waiting (serving c (d .met) (d .call) q .place i) p ≡ some x → Accepted h x
-    waiting-accepted d m =
+    pub toServe-accepted : (d : NotedTick) → List·Memᴰ d h → (q : ℕ) → q ≤ 5 → (i p : ℕ) (x : Packet) → i < 256 → toServe (serving c (d .met) (d .call) q .place i) p ≡ some x → Accepted h x
+    toServe-accepted d m =
         let M = moment c R m in
-        let a = held-known (Accepted h) (M .past) (λ e n. now-accepted e (subst (List·Memᴰ e) (sym (M .is)) (Memᴰ·append-left (d ∷ M .later) n))) nothing-held in
-        waiting-known (M .tick) (Accepted h) (now-accepted d m) a
+        let a = held-known (Accepted h) (M .past) (λ e n. now-accepted e (subst (List·Memᴰ e) (sym (M .parts)) (Memᴰ·append-left (d ∷ M .later) n))) nothing-held in
+        toServe-known (M .tick) (Accepted h) (now-accepted d m) a
 
     -- What is left is x itself, and x fits the clock.
     pub in-time : (x : Packet) → Accepted h x → (p : ℕ) → 0 < leftOn p x (w .place) → w .clock ≤ℤ x .deadline
     unfolding leftOn
     in-time x a p n =
-        let (i, l, e) = count-some (λ i. isLeft x (waiting (w .place i) p)) 256 n in
-        let (y, ey, s) = left-x x (waiting (w .place i) p) e in
-        let (k, ev, ex, t) = waiting-held (w .place i) p y ey in
+        let (i, l, e) = count-some (λ i. isLeft x (toServe (w .place i) p)) 256 n in
+        let (y, ey, s) = left-x x (toServe (w .place i) p) e in
+        let (k, ev, ex, t) = toServe-held (w .place i) p y ey in
         let q : k .packet ≡ x = ex ∙ sym (unique R x y a (subst (Accepted h) ex (held-accepted i l k ev)) s) in
-        record { le = subst (λ (z : Packet). T (leZ (w .clock) (z .deadline))) q (run-good R .fit i l k ev .fit .due) }
+        record { le = subst (λ (z : Packet). T (leZ (w .clock) (z .deadline))) q (run-good R .window i l k ev .window .due) }
 
     -- What is sent or withdrawn was accepted.
-    pub genuine : (d : Done) → List·Memᴰ d h → (p : ℕ) → p < 5 → (x : Packet) → Genuine h d p x
+    pub genuine : (d : NotedTick) → List·Memᴰ d h → (p : ℕ) → p < 5 → (x : Packet) → Genuine h d p x
     genuine d m p hp x =
         let t = moment c R m .tick in
         record {
-          on-time = λ i e. let (l, v, b) = rests t p (onTime (i, x)) e in waiting-accepted d m p (omega arith) i p x l v;
-          early = λ i e. let (l, v, b, n) = rests t p (early (i, x)) e in waiting-accepted d m p (omega arith) i p x l v;
-          withdrawn = λ k. let (i, l, v, b) = withdrawn-at t p x k in waiting-accepted d m 5 (omega arith) i p x l v;
+          on-time = λ i e. let (l, v, b) = rests t p (onTime (i, x)) e in toServe-accepted d m p (omega arith) i p x l v;
+          early = λ i e. let (l, v, b, n) = rests t p (early (i, x)) e in toServe-accepted d m p (omega arith) i p x l v;
+          withdrawn = λ k. let (i, l, v, b) = withdrawn-at t p x k in toServe-accepted d m 5 (omega arith) i p x l v;
         }
 
     -- What is the same as an accepted packet, and is sent or withdrawn, is that packet.
-    pub lawful : (x : Packet) → Accepted h x → (p : ℕ) → p < 5 → (d : Done) → List·Memᴰ d h → Lawful c d p x
+    pub permitted : (x : Packet) → Accepted h x → (p : ℕ) → p < 5 → (d : NotedTick) → List·Memᴰ d h → Permitted c d p x
     unfolding isSent
-    lawful x a p hp d m = record {
+    permitted x a p hp d m = record {
       sent = λ s. go (d .report .grant p) refl s;
       on-time = λ i y e s. record { le = subst (λ (y : Packet). T (leZ (y .time) (d .met .clock))) (is-x y s (genuine d m p hp y .on-time i e)) (rests t p (onTime (i, y)) e .2) };
       early = λ i y e s. record { lt = subst (λ (y : Packet). T (ltZ (d .met .clock) (y .time))) (is-x y s (genuine d m p hp y .early i e)) (rests t p (early (i, y)) e .2) };
@@ -336,7 +336,7 @@ module _ (c : ℕ) where
         t : Ticking c d
         t = moment c R m .tick
 
-        is-x : (y : Packet) → same x y ≡ true → Accepted h y → y ≡ x
+        is-x : (y : Packet) → samePacket x y ≡ true → Accepted h y → y ≡ x
         is-x y s b = sym (unique R x y a b s)
 
         go : (g : Grant (ℕ × Packet)) → d .report .grant p ≡ g → isSent x g ≡ true → Sent d p x

@@ -11,10 +11,10 @@ use lib.Dec.{T, eqb, eqb→eq}
 use lib.IntN.{ℤ, sucℤ, pos, _+ℤ_}
 use lib.Signed.{leZ, ltZ, _≤ℤ_}
 use borrow.Author.Tests.{ne-eqb, eq-eqb}
-use Rattle.rules.specs.Account.{Done, same, isSent, times, isLeft, leftOn, sentOn, withdrawnOn, Accepted, Waits, NoneOnTime, Prompt, answerDue, stored, Stored, Accounts}
+use Rattle.rules.specs.Account.{NotedTick, samePacket, isSent, times, isLeft, leftOn, sentOn, withdrawnOn, Accepted, Unserved, NoneOnTime, Prompt, answerDue, stored, Stored, Accounts}
 use Rattle.rules.specs.Areas.{byte, packet, has, bestEffort, onTime, early}
 use Rattle.rules.specs.Indices.{count, counted}
-use Rattle.rules.specs.Whole.{Packet, Held, Router, TickCall, Arrival, waiting, meets, arrivals, ticked, Report, arrivalCode}
+use Rattle.rules.specs.Whole.{Packet, Held, Router, TickCall, Arrival, toServe, meets, arrived, ticked, Report, arrivalCode}
 use Rattle.rules.proofs.Booleans.{is-true, same-test}
 use Rattle.rules.proofs.IndexLaws.{count-none, count-some, count-same, count-two, count-pos, counted-true, counted-false}
 use Rattle.rules.proofs.Integers.{orders, suc-nat, not-le}
@@ -24,14 +24,14 @@ use Rattle.rules.proofs.Grants.{grant-on-time, grant-best-effort, grant
 use Rattle.rules.proofs.Good.{after, arrivals-frame, chosen}
 use Rattle.rules.proofs.Accounting.{taken, for-port, any, holds, tick-in, arrivals-left, served-left}
 use Rattle.rules.proofs.Runs.{next, next-good, Ticking, Run, rest, quiet, ticks, split, moment, over}
-use Rattle.rules.proofs.RunAccounts.{same-self, left-x, router-at, arrival-is, grant-is, fit-at, run-good, acceptedOn, accepted-append, conserve, once, unique, held-accepted, waiting-accepted, left-nothing, in-time, genuine, lawful}
+use Rattle.rules.proofs.RunAccounts.{same-self, left-x, router-at, arrival-is, grant-is, window-at, run-good, acceptedOn, accepted-append, conserve, once, unique, held-accepted, toServe-accepted, left-nothing, in-time, genuine, permitted}
 
 -- ---- the free places of a tick
 
 module _ (c : ℕ) (w : Router) (call : TickCall) where
   -- Each accepted arrival takes one free place.
   arrivals-free : (p : ℕ) → length (after c w call p .free) + count p (λ q. eqb (arrivalCode (meets c call (after c w call q) q)) 1) ≡ length (w .free)
-  unfolding arrivals count
+  unfolding arrived count
   arrivals-free zero = omega arith
   arrivals-free (suc p) =
       let a = arrivals-free p in
@@ -45,7 +45,7 @@ module _ (c : ℕ) where
   full-same a b f g = same-test (eqb a 0) (eqb b 256) (λ t. is-true (eqb b 256) (eq-eqb b 256 (f (eqb→eq a 0 t)))) (λ t. is-true (eqb a 0) (eq-eqb a 0 (g (eqb→eq b 256 t))))
 
   -- By the settings, which the tick does not change, and the free places, which make 256 with the stored packets.
-  answers-due : {d : Done} → Ticking c d → (p : ℕ) → arrivalCode (d .report .arrival p) ≡ answerDue d p
+  answers-due : {d : NotedTick} → Ticking c d → (p : ℕ) → arrivalCode (d .report .arrival p) ≡ answerDue d p
   unfolding answerDue
   answers-due {d} t p =
       let w = d .met in
@@ -64,13 +64,13 @@ module _ (c : ℕ) where
   -- ---- a run with one more tick
 
   -- By induction over the run.
-  snoc : {r m : Router} {h : List Done} → Run c r h m → (d : Done) → Ticking c d → d .met ≡ m → Run c r (h ++ (d ∷ [])) (next c d)
+  snoc : {r m : Router} {h : List NotedTick} → Run c r h m → (d : NotedTick) → Ticking c d → d .met ≡ m → Run c r (h ++ (d ∷ [])) (next c d)
   snoc (rest {r = r} G) d t e = subst (λ (r : Router). Run c r (d ∷ []) (next c d)) e (ticks d t (rest (next-good c t)))
   snoc (quiet ec ep R) d t e = quiet ec ep (snoc R d t e)
   snoc (ticks d₀ t₀ R) d t e = ticks d₀ t₀ (snoc R d t e)
 
   -- By induction over the ticks.
-  withdrawn-none : (p : ℕ) (x : Packet) (h : List Done) → ((d : Done) → List·Memᴰ d h → times x (d .report .withdrawn p) ≡ 0) → withdrawnOn p x h ≡ 0
+  withdrawn-none : (p : ℕ) (x : Packet) (h : List NotedTick) → ((d : NotedTick) → List·Memᴰ d h → times x (d .report .withdrawn p) ≡ 0) → withdrawnOn p x h ≡ 0
   unfolding withdrawnOn
   withdrawn-none p x [] f = refl
   withdrawn-none p x (d ∷ h) f = let a = f d (List·Memᴰ·head refl) in let b = withdrawn-none p x h (λ e m. f e (List·Memᴰ·tail m)) in omega arith
@@ -78,7 +78,7 @@ module _ (c : ℕ) where
   -- ---- each stored packet has its place to itself
 
   -- By induction over the run: a tick adds only what it accepts.
-  run-in : {r w : Router} {h : List Done} (x : Packet) → Run c r h w → tally (holds x) (w .place) ≤ tally (holds x) (r .place) + acceptedOn c any x h
+  run-in : {r w : Router} {h : List NotedTick} (x : Packet) → Run c r h w → tally (holds x) (w .place) ≤ tally (holds x) (r .place) + acceptedOn c any x h
   unfolding acceptedOn ticked
   run-in x (rest G) = omega arith
   run-in x (quiet ec ep R) = let a = run-in x R in let e = ap (tally (holds x)) ep in omega arith
@@ -88,13 +88,13 @@ module _ (c : ℕ) where
       let e = ap (λ (k : Report). count 5 (λ q. taken any x (k .arrival q))) (t .report) in
       omega arith
 
-  module _ {r w : Router} {h : List Done} (R : Run c r h w) (empty : (i : ℕ) → r .place i ≡ none) where
+  module _ {r w : Router} {h : List NotedTick} (R : Run c r h w) (empty : (i : ℕ) → r .place i ≡ none) where
     held-nothing : (x : Packet) → tally (holds x) (r .place) ≡ 0
     unfolding tally holds
     held-nothing x = count-none (λ i. holds x (r .place i)) 256 (λ i l. ap (holds x) (empty i))
 
     -- Two places would count two, and x was accepted once.
-    own : (i j : ℕ) → i < 256 → j < 256 → (x y : Held) → w .place i ≡ some x → w .place j ≡ some y → same (x .packet) (y .packet) ≡ true → i ≡ j
+    own : (i j : ℕ) → i < 256 → j < 256 → (x y : Held) → w .place i ≡ some x → w .place j ≡ some y → samePacket (x .packet) (y .packet) ≡ true → i ≡ j
     unfolding tally holds
     own i j hi hj x y ex ey s = go (ℕ-discrete i j)
       where
@@ -112,17 +112,17 @@ module _ (c : ℕ) where
     kept-stored : Stored h (w .place)
     kept-stored = record {
       accepted = held-accepted c R empty;
-      some-port = λ i l x e. some-port (x .left) (run-good c R .busy i l x e) (run-good c R .fit i l x e .left);
+      some-port = λ i l x e. some-port (x .left) (run-good c R .busy i l x e) (run-good c R .window i l x e .left);
       own = own;
     }
 
     -- ---- what waits for a port when a tick serves it
 
-    module _ (before : List Done) (d : Done) (t : Ticking c d) (S : Run c r before (d .met)) (p : ℕ) (hp : p < 5) where
+    module _ (before : List NotedTick) (d : NotedTick) (t : Ticking c d) (S : Run c r before (d .met)) (p : ℕ) (hp : p < 5) where
       abbrev here : Router
       here = router-at c t p
 
-      abbrev upto : List Done
+      abbrev upto : List NotedTick
       upto = before ++ (d ∷ [])
 
       R′ : Run c r upto (next c d)
@@ -149,46 +149,46 @@ module _ (c : ℕ) where
       not-withdrawn : (x : Packet) → Accepted upto x → d .met .clock ≤ℤ x .deadline → withdrawnOn p x before ≡ 0
       not-withdrawn x a alive = withdrawn-none p x before (λ e k. go e k (times x (e .report .withdrawn p)) refl)
         where
-          go : (e : Done) → List·Memᴰ e before → (n : ℕ) → times x (e .report .withdrawn p) ≡ n → n ≡ 0
+          go : (e : NotedTick) → List·Memᴰ e before → (n : ℕ) → times x (e .report .withdrawn p) ≡ n → n ≡ 0
           go e k zero q = refl
           go e k (suc n) q =
-              let s : e .met .clock ≡ x .deadline = lawful c R′ empty x a p hp e (Memᴰ·append-left (d ∷ []) k) .withdrawn (omega arith) .1 in
+              let s : e .met .clock ≡ x .deadline = permitted c R′ empty x a p hp e (Memᴰ·append-left (d ∷ []) k) .withdrawn (omega arith) .1 in
               let o : T (leZ (sucℤ (x .deadline)) (d .met .clock)) = subst (λ (y : ℤ). T (leZ (sucℤ y) (d .met .clock))) s (over c S k) in
               let l = alive .le in
               absurd (omega (arith, orders, suc-nat (x .deadline)))
 
       -- What waits by the accounts waits at a place.
-      waits-at : (x : Packet) → Waits before d p x → (i : ℕ) × (i < 256) × (waiting (here .place i) p ≡ some x)
+      waits-at : (x : Packet) → Unserved before d p x → (i : ℕ) × (i < 256) × (toServe (here .place i) p ≡ some x)
       unfolding leftOn
       waits-at x W =
           let b = balance x (W .accepted) in
           let u = W .unsent in
           let w′ = not-withdrawn x (W .accepted) (W .in-time) in
           let k : counted (has (x .mask) p) ≡ 1 = ap counted (W .port) ∙ counted-true in
-          let (i, l, e) = count-some (λ i. isLeft x (waiting (here .place i) p)) 256 (omega arith) in
-          let (y, ey, s) = left-x x (waiting (here .place i) p) e in
-          (i, l, ey ∙ ap some (sym (unique c R′ x y (W .accepted) (waiting-accepted c R′ empty d last p (omega arith) i p y l ey) s)))
+          let (i, l, e) = count-some (λ i. isLeft x (toServe (here .place i) p)) 256 (omega arith) in
+          let (y, ey, s) = left-x x (toServe (here .place i) p) e in
+          (i, l, ey ∙ ap some (sym (unique c R′ x y (W .accepted) (toServe-accepted c R′ empty d last p (omega arith) i p y l ey) s)))
 
       -- And the other way round.
-      at-waits : (i : ℕ) (x : Packet) → i < 256 → waiting (here .place i) p ≡ some x → Waits before d p x
+      at-waits : (i : ℕ) (x : Packet) → i < 256 → toServe (here .place i) p ≡ some x → Unserved before d p x
       unfolding leftOn isLeft
       at-waits i x l e =
-          let a = waiting-accepted c R′ empty d last p (omega arith) i p x l e in
+          let a = toServe-accepted c R′ empty d last p (omega arith) i p x l e in
           let b = balance x a in
-          let k = count-pos (λ i. isLeft x (waiting (here .place i) p)) 256 i l (ap (isLeft x) e ∙ same-self x) in
+          let k = count-pos (λ i. isLeft x (toServe (here .place i) p)) 256 i l (ap (isLeft x) e ∙ same-self x) in
           let (port, unsent) = once-left (has (x .mask) p) refl b k in
-          record { accepted = a; port = port; unsent = unsent; in-time = record { le = fit-at c t p p (omega arith) i x l e .1 } }
+          record { accepted = a; port = port; unsent = unsent; in-time = record { le = window-at c t p p (omega arith) i x l e .1 } }
         where
           once-left : (v : Bool) → has (x .mask) p ≡ v → sentOn p x before + withdrawnOn p x before + leftOn p x (here .place) ≡ counted v → 0 < leftOn p x (here .place) → (has (x .mask) p ≡ true) × (sentOn p x before ≡ 0)
           once-left true q b k = let z = counted-true in (q, omega arith)
           once-left false q b k = let z = counted-false in absurd (omega arith)
 
       -- What waits at a place waits by the accounts.
-      none-ready : NoneOnTime before d p → (i : ℕ) (x : Packet) → i < 256 → waiting (here .place i) p ≡ some x → T (ltZ (d .met .clock) (x .time))
+      none-ready : NoneOnTime before d p → (i : ℕ) (x : Packet) → i < 256 → toServe (here .place i) p ≡ some x → T (ltZ (d .met .clock) (x .time))
       none-ready N i x l e = N x (at-waits i x l e) .lt
 
       -- What waits is at a place, and the grant is the least there.
-      on-time : (x : Packet) → Waits before d p x → x .time ≤ℤ d .met .clock → (i : ℕ) × (y : Packet) × (d .report .grant p ≡ onTime (i, y)) × (y .deadline ≤ℤ x .deadline)
+      on-time : (x : Packet) → Unserved before d p x → x .time ≤ℤ d .met .clock → (i : ℕ) × (y : Packet) × (d .report .grant p ≡ onTime (i, y)) × (y .deadline ≤ℤ x .deadline)
       on-time x W ready =
           let (i, l, e) = waits-at x W in
           let (j, y, g, le) = grant-on-time here (d .call .bestEffort) p i x l e (ready .le) in
@@ -209,7 +209,7 @@ module _ (c : ℕ) where
             (j, y, grant-is c t p ∙ g, record { le = le });
       }
         where
-          later : (x : Packet) → Waits before d p x → d .report .grant p ≡ bestEffort → (v : Bool) → leZ (x .time) (d .met .clock) ≡ v → T (ltZ (d .met .clock) (x .time))
+          later : (x : Packet) → Unserved before d p x → d .report .grant p ≡ bestEffort → (v : Bool) → leZ (x .time) (d .met .clock) ≡ v → T (ltZ (d .met .clock) (x .time))
           later x W e true q = let (j, y, g, le) = on-time x W (record { le = is-true (leZ (x .time) (d .met .clock)) q }) in clash e g
           later x W e false q = not-le (x .time) (d .met .clock) q
 
@@ -218,7 +218,7 @@ module _ (c : ℕ) where
     accounts = record {
       account = λ x a p hp. record {
         once = let v = conserve c p hp x R in let o = once c (for-port p) x R a in let z = left-nothing c R empty p x in omega arith;
-        lawful = λ d m. lawful c R empty x a p hp d m;
+        permitted = λ d m. permitted c R empty x a p hp d m;
         in-time = in-time c R empty x a p;
       };
       unique = unique c R;

@@ -11,13 +11,13 @@ use lib.Dec.{T, leb, eqb}
 use lib.IntN.{ℤ, sucℤ}
 use lib.Signed.{leZ}
 use borrow.Author.Tests.{eqb-true, leb-true, ltb-true}
-use Rattle.rules.specs.Account.{Done}
+use Rattle.rules.specs.Account.{NotedTick}
 use Rattle.rules.specs.Areas.{Bytes, half, packet, has, fits, areasFull}
 use Rattle.rules.specs.Calls.{tick, refusal, ByteCall, TrueTimes}
-use Rattle.rules.specs.Whole.{Router, TickCall, put, settings, ticked, grantBytes}
+use Rattle.rules.specs.Whole.{Router, TickCall, put, written, ticked, grantBytes}
 use Rattle.rules.proofs.Booleans.{asked, and-left, cons-first, cons-rest, nil-cons}
 use Rattle.rules.proofs.Integers.{orders, suc-nat, later-differs}
-use Rattle.rules.proofs.Good.{Good, EntryFits, Settings, Input, ended-frame, tick-good}
+use Rattle.rules.proofs.Good.{Good, EntryInRange, SettingsInRange, Input, ended-frame, tick-good}
 
 -- ---- a control write keeps the router good
 
@@ -27,20 +27,20 @@ both-arms true P hx hy = hx
 both-arms false P hx hy = hy
 
 -- Register by register, only what it writes changes.
-settings-range : (c : ℕ) (w : Router) → Settings c w → (register v : ℕ) → register ≤ 5 → fits c register v ≡ true → Settings c (settings register v w)
-unfolding settings put fits
-settings-range c w S zero v l f = record { entry = S .entry; horizon = S .horizon; latch = record { delay = S .latch .delay; mask = S .latch .mask }; ports = S .ports }
-settings-range c w S (suc zero) v l f = record { entry = S .entry; horizon = S .horizon; latch = record { delay = ltb-true v (half c) f; mask = S .latch .mask }; ports = S .ports }
-settings-range c w S (suc (suc zero)) v l f = record { entry = S .entry; horizon = S .horizon; latch = record { delay = S .latch .delay; mask = leb-true v 31 f }; ports = S .ports }
-settings-range c w S (suc (suc (suc zero))) v l f = record { entry = λ i m. both-arms (eqb v i) (EntryFits c) (S .latch) (S .entry i m); horizon = S .horizon; latch = S .latch; ports = S .ports }
-settings-range c w S (suc (suc (suc (suc zero)))) v l f = record { entry = S .entry; horizon = S .horizon; latch = S .latch; ports = leb-true v 31 f }
-settings-range c w S (suc (suc (suc (suc (suc zero))))) v l f = record { entry = S .entry; horizon = λ p m. both-arms (has (w .latch 3) p) (λ n. n < half c) (ltb-true v (half c) f) (S .horizon p m); latch = S .latch; ports = S .ports }
-settings-range c w S (suc (suc (suc (suc (suc (suc n)))))) v l f = absurd (omega arith)
+written-range : (c : ℕ) (w : Router) → SettingsInRange c w → (register v : ℕ) → register ≤ 5 → fits c register v ≡ true → SettingsInRange c (written register v w)
+unfolding written put fits
+written-range c w S zero v l f = record { entry = S .entry; horizon = S .horizon; latch = record { delay = S .latch .delay; mask = S .latch .mask }; ports = S .ports }
+written-range c w S (suc zero) v l f = record { entry = S .entry; horizon = S .horizon; latch = record { delay = ltb-true v (half c) f; mask = S .latch .mask }; ports = S .ports }
+written-range c w S (suc (suc zero)) v l f = record { entry = S .entry; horizon = S .horizon; latch = record { delay = S .latch .delay; mask = leb-true v 31 f }; ports = S .ports }
+written-range c w S (suc (suc (suc zero))) v l f = record { entry = λ i m. both-arms (eqb v i) (EntryInRange c) (S .latch) (S .entry i m); horizon = S .horizon; latch = S .latch; ports = S .ports }
+written-range c w S (suc (suc (suc (suc zero)))) v l f = record { entry = S .entry; horizon = S .horizon; latch = S .latch; ports = leb-true v 31 f }
+written-range c w S (suc (suc (suc (suc (suc zero))))) v l f = record { entry = S .entry; horizon = λ p m. both-arms (has (w .latch 3) p) (λ n. n < half c) (ltb-true v (half c) f) (S .horizon p m); latch = S .latch; ports = S .ports }
+written-range c w S (suc (suc (suc (suc (suc (suc n)))))) v l f = absurd (omega arith)
 
 -- A control write that fits its register keeps every setting in range.
-pub settings-good : (c : ℕ) (w : Router) → Good c w → (register v : ℕ) → register ≤ 5 → fits c register v ≡ true → Good c (settings register v w)
-unfolding settings
-settings-good c w G register v l f = record { settings = settings-range c w (G .settings) register v l f; kept = G .kept; fit = G .fit; busy = G .busy }
+pub written-good : (c : ℕ) (w : Router) → Good c w → (register v : ℕ) → register ≤ 5 → fits c register v ≡ true → Good c (written register v w)
+unfolding written
+written-good c w G register v l f = record { settings = written-range c w (G .settings) register v l f; kept = G .kept; window = G .window; busy = G .busy }
 
 -- ---- an accepted tick's input
 
@@ -70,83 +70,83 @@ input-of c w k out ans (ha, hb, bytes, ho, hn) true-times e =
 
 module _ (c : ℕ) where
   -- The router after the tick that d notes.
-  abbrev pub next : Done → Router
+  abbrev pub next : NotedTick → Router
   next d = ticked c (d .met) (d .call) .router
 
   -- d notes a tick of a good router, and the outgoing area holds what each port was granted.
-  pub record Ticking (d : Done) : Type 0 where
+  pub record Ticking (d : NotedTick) : Type 0 where
     pub good : Good c (d .met)
     pub input : Input c (d .met .clock) (d .call)
     pub report : d .report ≡ ticked c (d .met) (d .call) .report
     pub sends : (p : ℕ) → p < 5 → packet (d .outgoing) p ≡ grantBytes c (d .report .grant p)
 
   -- A tick keeps the router good.
-  pub next-good : {d : Done} → Ticking d → Good c (next d)
+  pub next-good : {d : NotedTick} → Ticking d → Good c (next d)
   unfolding ticked
   next-good {d} t = tick-good c (d .met) (d .call) (t .good) (t .input)
 
   -- A run of ticks h from the router r to w; a quiet call leaves clock and places.
-  pub data Run : Router → List Done → Router → Type 0 where
+  pub data Run : Router → List NotedTick → Router → Type 0 where
     rest : {r : Router} → Good c r → Run r [] r
-    quiet : {r r′ w : Router} {h : List Done} → r′ .clock ≡ r .clock → r′ .place ≡ r .place → Run r′ h w → Run r h w
-    ticks : {w : Router} {h : List Done} (d : Done) → Ticking d → Run (next d) h w → Run (d .met) (d ∷ h) w
+    quiet : {r r′ w : Router} {h : List NotedTick} → r′ .clock ≡ r .clock → r′ .place ≡ r .place → Run r′ h w → Run r h w
+    ticks : {w : Router} {h : List NotedTick} (d : NotedTick) → Ticking d → Run (next d) h w → Run (d .met) (d ∷ h) w
 
   -- ---- the clock of a run, and the run at each of its ticks
 
   -- A tick moves the clock by one.
-  pub tick-clock : (d : Done) → next d .clock ≡ sucℤ (d .met .clock)
+  pub tick-clock : (d : NotedTick) → next d .clock ≡ sucℤ (d .met .clock)
   unfolding ticked
   tick-clock d = ap (λ s. sucℤ (s .clock)) (ended-frame c (d .met) (d .call))
 
   -- By induction over the run.
-  run-clock : {r w : Router} {h : List Done} → Run r h w → T (leZ (r .clock) (w .clock))
+  run-clock : {r w : Router} {h : List NotedTick} → Run r h w → T (leZ (r .clock) (w .clock))
   run-clock (rest {r = r} G) = omega (arith, orders)
   run-clock {w = w} (quiet ec ep R) = subst (λ (z : ℤ). T (leZ z (w .clock))) ec (run-clock R)
   run-clock {w = w} (ticks d t R) = let k = subst (λ (z : ℤ). T (leZ z (w .clock))) (tick-clock d) (run-clock R) in omega (arith, orders, suc-nat (d .met .clock))
 
   -- A run up to a tick, and after it.
-  pub split : {r w : Router} {h : List Done} → Run r h w → (before later : List Done) (d : Done) → h ≡ before ++ (d ∷ later) → Ticking d × Run r before (d .met) × Run (next d) later w
+  pub split : {r w : Router} {h : List NotedTick} → Run r h w → (before later : List NotedTick) (d : NotedTick) → h ≡ before ++ (d ∷ later) → Ticking d × Run r before (d .met) × Run (next d) later w
   split (rest G) [] later d e = nil-cons e
   split (rest G) (b ∷ bs) later d e = nil-cons e
   split (quiet ec ep R) before later d e = let (t, S, U) = split R before later d e in (t, quiet ec ep S, U)
   split {w = w} (ticks d₀ t R) [] later d e =
-      subst (λ (d : Done). Ticking d × Run (d₀ .met) [] (d .met) × Run (next d) later w) (cons-first e) (t, rest (t .good), subst (λ (l : List Done). Run (next d₀) l w) (cons-rest e) R)
+      subst (λ (d : NotedTick). Ticking d × Run (d₀ .met) [] (d .met) × Run (next d) later w) (cons-first e) (t, rest (t .good), subst (λ (l : List NotedTick). Run (next d₀) l w) (cons-rest e) R)
   split (ticks d₀ t R) (b ∷ bs) later d e =
       let (u, S, U) = split R bs later d (cons-rest e) in
-      (u, subst (λ (f : Done). Run (d₀ .met) (f ∷ bs) (d .met)) (cons-first e) (ticks d₀ t S), U)
+      (u, subst (λ (f : NotedTick). Run (d₀ .met) (f ∷ bs) (d .met)) (cons-first e) (ticks d₀ t S), U)
 
   -- By induction over the list.
-  mem-split : {d : Done} {h : List Done} → List·Memᴰ d h → (before : List Done) × (later : List Done) × (h ≡ before ++ (d ∷ later))
-  mem-split (List·Memᴰ·head {xs = xs} e) = ([], xs, ap (λ (d : Done). d ∷ xs) (sym e))
-  mem-split (List·Memᴰ·tail {x = x} m) = let (b, l, e) = mem-split m in (x ∷ b, l, ap (λ (h : List Done). x ∷ h) e)
+  mem-split : {d : NotedTick} {h : List NotedTick} → List·Memᴰ d h → (before : List NotedTick) × (later : List NotedTick) × (h ≡ before ++ (d ∷ later))
+  mem-split (List·Memᴰ·head {xs = xs} e) = ([], xs, ap (λ (d : NotedTick). d ∷ xs) (sym e))
+  mem-split (List·Memᴰ·tail {x = x} m) = let (b, l, e) = mem-split m in (x ∷ b, l, ap (λ (h : List NotedTick). x ∷ h) e)
 
   -- The ticks before d are over at d, and those after it come later.
-  pub record Moment (r : Router) (h : List Done) (w : Router) (d : Done) : Type 0 where
-    pub before : List Done
-    pub later : List Done
-    pub is : h ≡ before ++ (d ∷ later)
+  pub record Moment (r : Router) (h : List NotedTick) (w : Router) (d : NotedTick) : Type 0 where
+    pub before : List NotedTick
+    pub later : List NotedTick
+    pub parts : h ≡ before ++ (d ∷ later)
     pub tick : Ticking d
     pub past : Run r before (d .met)
     pub future : Run (next d) later w
 
   -- Each tick of a run has its moment.
-  pub moment : {r w : Router} {h : List Done} {d : Done} → Run r h w → List·Memᴰ d h → Moment r h w d
+  pub moment : {r w : Router} {h : List NotedTick} {d : NotedTick} → Run r h w → List·Memᴰ d h → Moment r h w d
   moment {d = d} R m =
       let (b, l, e) = mem-split m in
       let (t, S, U) = split R b l d e in
-      record { before = b; later = l; is = e; tick = t; past = S; future = U }
+      record { before = b; later = l; parts = e; tick = t; past = S; future = U }
 
   -- A tick of a run is over at its end.
-  pub over : {r w : Router} {h : List Done} {d : Done} → Run r h w → List·Memᴰ d h → T (leZ (sucℤ (d .met .clock)) (w .clock))
+  pub over : {r w : Router} {h : List NotedTick} {d : NotedTick} → Run r h w → List·Memᴰ d h → T (leZ (sucℤ (d .met .clock)) (w .clock))
   over {w = w} {d = d} R m = subst (λ (z : ℤ). T (leZ z (w .clock))) (tick-clock d) (run-clock (moment R m .future))
 
   -- A tick of the run after d comes later than d.
-  pub after-tick : (d : Done) {e : Done} {w : Router} {h : List Done} → Run (next d) h w → List·Memᴰ e h → T (leZ (sucℤ (d .met .clock)) (e .met .clock))
+  pub after-tick : (d : NotedTick) {e : NotedTick} {w : Router} {h : List NotedTick} → Run (next d) h w → List·Memᴰ e h → T (leZ (sucℤ (d .met .clock)) (e .met .clock))
   after-tick d {e} R m = subst (λ (z : ℤ). T (leZ z (e .met .clock))) (tick-clock d) (run-clock (moment R m .past))
 
   -- No two ticks of a run have one clock.
-  pub same-tick : {r w : Router} {h : List Done} {d e : Done} → Run r h w → List·Memᴰ d h → List·Memᴰ e h → d .met .clock ≡ e .met .clock → d ≡ e
-  same-tick {r} {w} {h} {d} {e} R m n q = find (List·Memᴰ·append-cases (M .before) (subst (List·Memᴰ e) (M .is) n))
+  pub same-tick : {r w : Router} {h : List NotedTick} {d e : NotedTick} → Run r h w → List·Memᴰ d h → List·Memᴰ e h → d .met .clock ≡ e .met .clock → d ≡ e
+  same-tick {r} {w} {h} {d} {e} R m n q = find (List·Memᴰ·append-cases (M .before) (subst (List·Memᴰ e) (M .parts) n))
     where
       M : Moment r h w d
       M = moment R m

@@ -19,7 +19,7 @@ use Rattle.rules.specs.Clock.{cut, plus, offset}
 use Rattle.rules.specs.Demand3.{HeldShown, byteStep, storeAfter}
 use Rattle.rules.specs.Questions.{full, sound, stack}
 use Rattle.rules.specs.Tick.{Outcome}
-use Rattle.rules.specs.SoundKept.{held, Intact, SoundKept}
+use Rattle.rules.specs.SoundKept.{occupied, Intact, SoundKept}
 use Rattle.rules.specs.Whole.{Packet, Held, Router, packetBytes, isHeld}
 use Rattle.rules.proofs.BoardLaws.{Laws}
 use Rattle.rules.proofs.Booleans.{and-left, and-right, some-inj, none-some}
@@ -29,8 +29,8 @@ use Rattle.rules.proofs.IndexLaws.{count-same}
 use Rattle.rules.proofs.ClockLaws.{pow-double}
 use Rattle.rules.proofs.TimeLaws.{cut-pos, cut-back, plus-cut, plus-minus}
 use Rattle.rules.proofs.StateLaws.{reads-self, reads-as, length-stack}
-use Rattle.rules.proofs.Good.{HeldFit, Busy, Good}
-use Rattle.rules.proofs.Relation.{on-settings, shown, Here, Rel}
+use Rattle.rules.proofs.Good.{HeldInWindow, Busy, Good}
+use Rattle.rules.proofs.Relation.{on-settings, shown, SlotShows, Rel}
 use Rattle.rules.proofs.Soundness.{Sound, StoredSound, delayOf, offsetOf, at-elem, stack-lists, stack-iff, sound-iff}
 use Rattle.rules.proofs.Room.{sound-used}
 use Rattle.rules.proofs.Refine.{rel-intact}
@@ -115,17 +115,17 @@ module _ (B : Board) (L : Laws B) where
             sym (packed-parts c k (bytes-part 20 (20 * i) (r .memory) bm) (length-packet (r .memory) i (let h = whole in omega arith)) (L .few-bytes))
             ∙ ap (λ (v : ℕ). packed c (byte k 0) v (payload c k)) (x .header ∙ deadline-cut)
 
-    place-shown : (i : ℕ) → i < 256 → Here B L r i (placeOf r i)
+    place-shown : (i : ℕ) → i < 256 → SlotShows B L r i (placeOf r i)
     place-shown i l = go (eqb (get s (mask i)) 0) refl
       where
-        go : (t : Bool) → eqb (get s (mask i)) 0 ≡ t → Here B L r i (cond t none (some (heldOf r i)))
+        go : (t : Bool) → eqb (get s (mask i)) 0 ≡ t → SlotShows B L r i (cond t none (some (heldOf r i)))
         go true q = eqb-true (get s (mask i)) 0 q
         go false q = slot-shown i l (S .stored i l (eqb-false (get s (mask i)) 0 q))
 
     shows : Rel B L r (routerOf r)
     unfolding routerOf
     shows = record {
-      settled = reads-as B L (reads-self B L s sized) (on-settings (get s) (shown c (routerOf r)) (sym (cut-pos (bits c) (get s clock) clock-lt)) (λ p l. refl) (λ q l. refl) (λ i l. (refl, refl, refl)));
+      settings = reads-as B L (reads-self B L s sized) (on-settings (get s) (shown c (routerOf r)) (sym (cut-pos (bits c) (get s clock) clock-lt)) (λ p l. refl) (λ q l. refl) (λ i l. (refl, refl, refl)));
       whole = whole;
       place = place-shown;
       stack = refl;
@@ -158,8 +158,8 @@ module _ (B : Board) (L : Laws B) where
         rw (k, pow-double (8 * c - 2)) (omega (arith, pow-pos (8 * c - 2)))
 
     -- Its times are in range by the rules of a stored packet.
-    slot-fit : (i : ℕ) → i < 256 → StoredSound B r i → HeldFit c (pos (get s clock)) (half c - 1) (heldOf r i)
-    slot-fit i l x =
+    slot-window : (i : ℕ) → i < 256 → StoredSound B r i → HeldInWindow c (pos (get s clock)) (half c - 1) (heldOf r i)
+    slot-window i l x =
         let t = pos (get s clock) in
         let o = offsetOf B s i in
         let d = delayOf B s i in
@@ -167,7 +167,7 @@ module _ (B : Board) (L : Laws B) where
         let late = x .not-late .le in
         let far = x .not-far .le in
         record {
-          fit = record {
+          window = record {
             delay = d;
             sum = refl;
             small = x .in-range;
@@ -192,7 +192,7 @@ module _ (B : Board) (L : Laws B) where
           once = once;
           places = λ i h. let (k, l, q) = at-elem (λ j. get s (idle j)) i (get s free) h in subst (λ (n : ℕ). n < 256) q (addresses k l);
           idle = λ i l. slots i l ∙ sym (ap not (held-test i) ∙ Bool·not-not (eqb (get s (mask i)) 0));
-          all = let u = sound-used B L s e₁ addresses in let n = length-stack B L s in let q = count-same (λ i. isHeld (placeOf r i)) (held B s) 256 (λ i l. held-test i) in omega arith;
+          all = let u = sound-used B L s e₁ addresses in let n = length-stack B L s in let q = count-same (λ i. isHeld (placeOf r i)) (occupied B s) 256 (λ i l. held-test i) in omega arith;
         }
 
     good : Good c (routerOf r)
@@ -205,7 +205,7 @@ module _ (B : Board) (L : Laws B) where
         ports = S .settings .register-4;
       };
       kept = kept;
-      fit = λ i l h q. let (n, k) = held-is i h q in subst (HeldFit c (pos (get s clock)) (half c - 1)) k (slot-fit i l (S .stored i l n));
+      window = λ i l h q. let (n, k) = held-is i h q in subst (HeldInWindow c (pos (get s clock)) (half c - 1)) k (slot-window i l (S .stored i l n));
       busy = λ i l h q. let (n, k) = held-is i h q in subst Busy k (omega arith);
     }
 

@@ -11,7 +11,7 @@ use borrow.Author.Tests.{eq-eqb, ne-eqb, lt-ltb, le-ltb}
 use Rattle.rules.specs.Board.{Board, Field, free, idle}
 use Rattle.rules.specs.Indices.{topFirst}
 use Rattle.rules.specs.Questions.{stack}
-use Rattle.rules.proofs.BoardLaws.{Laws, kind, index, alike, same, Valid}
+use Rattle.rules.proofs.BoardLaws.{Laws, kind, index, alike, sameField, Valid}
 use Rattle.rules.proofs.Integers.{ltb-iff}
 
 -- Equal entries make equal stacks.
@@ -38,29 +38,29 @@ module _ (B : Board) (L : Laws B) where
   -- The state has its length, and its fields read as σ says, but for those of the kinds t.
   pub record Reads (t : ℕ → Bool) (s : List ℕ) (σ : Field → ℕ) : Type 0 where
     pub sized : length s ≡ stateLength
-    pub same : (f : Field) → t (kind f) ≡ false → Valid f → get s f ≡ σ f
+    pub reads : (f : Field) → t (kind f) ≡ false → Valid f → get s f ≡ σ f
 
   -- A state reads as itself.
   pub reads-self : {t : ℕ → Bool} (s : List ℕ) → length s ≡ stateLength → Reads t s (get s)
-  reads-self s e = record { sized = e; same = λ f q v. refl }
+  reads-self s e = record { sized = e; reads = λ f q v. refl }
 
   -- Readings that agree.
   pub reads-as : {t : ℕ → Bool} {s : List ℕ} {σ τ : Field → ℕ} → Reads t s σ → ((f : Field) → t (kind f) ≡ false → Valid f → σ f ≡ τ f) → Reads t s τ
-  reads-as R h = record { sized = R .sized; same = λ f e v. R .same f e v ∙ h f e v }
+  reads-as R h = record { sized = R .sized; reads = λ f e v. R .reads f e v ∙ h f e v }
 
   -- What reads as the state s reads as s does.
   pub reads-through : {t : ℕ → Bool} {s s′ : List ℕ} {σ : Field → ℕ} → Reads t s′ (get s) → Reads t s σ → Reads t s′ σ
-  reads-through R S = reads-as R (S .same)
+  reads-through R S = reads-as R (S .reads)
 
   -- A whole reading leaves out what one likes.
   pub reads-less : {t : ℕ → Bool} {s : List ℕ} {σ : Field → ℕ} → Reads none-out s σ → Reads t s σ
-  reads-less R = record { sized = R .sized; same = λ f e v. R .same f refl v }
+  reads-less R = record { sized = R .sized; reads = λ f e v. R .reads f refl v }
 
   -- A field stored: it reads as stored, and any other as before.
-  pub reads-put : {t : ℕ → Bool} {s : List ℕ} {σ : Field → ℕ} → Reads t s σ → (g : Field) (v : ℕ) → Valid g → Reads t (put s g v) (λ f. cond (same g f) v (σ f))
+  pub reads-put : {t : ℕ → Bool} {s : List ℕ} {σ : Field → ℕ} → Reads t s σ → (g : Field) (v : ℕ) → Valid g → Reads t (put s g v) (λ f. cond (sameField g f) v (σ f))
   reads-put {s = s} R g v valid = record {
     sized = L .length-put s g v ∙ R .sized;
-    same = λ f e w. L .get-put s g v f (R .sized) valid w ∙ ap (cond (same g f) v) (R .same f e w);
+    reads = λ f e w. L .get-put s g v f (R .sized) valid w ∙ ap (cond (sameField g f) v) (R .reads f e w);
   }
 
   -- Changes in a kind that is left out do not show.
@@ -86,7 +86,7 @@ module _ (B : Board) (L : Laws B) where
     pub marked-next : {t : ℕ → Bool} {s : List ℕ} (n : ℕ) → Reads t s (marked n) → Valid (g n) → Reads t (cond (b n) (put s (g n) v) s) (marked (suc n))
     marked-next {t} {s} n R valid = reads-as (stored (b n)) (λ f e w. rw (kinds n, indices n) (step f (ℕ-discrete (index f) n)))
       where
-        stored : (d : Bool) → Reads t (cond d (put s (g n) v) s) (λ f. cond (d && same (g n) f) v (marked n f))
+        stored : (d : Bool) → Reads t (cond d (put s (g n) v) s) (λ f. cond (d && sameField (g n) f) v (marked n f))
         stored true = reads-put R (g n) v valid
         stored false = R
 

@@ -14,7 +14,7 @@ use Rattle.rules.specs.Areas.{Bytes, value, digits}
 use Rattle.rules.specs.Board.{byTable, Field, clock, horizon, latch, free, idle, time, deadline, mask, outgoing, delay, routes, getAt, putAt}
 use Rattle.rules.specs.Indices.{all}
 use Rattle.rules.proofs.Booleans.{and-left, and-right}
-use Rattle.rules.proofs.BoardLaws.{Laws, freshField, kind, index, extent, width, same, Valid}
+use Rattle.rules.proofs.BoardLaws.{Laws, freshField, kind, index, extent, width, sameField, Valid}
 use Rattle.rules.proofs.IndexLaws.{all-at}
 use Rattle.rules.proofs.AreaLaws.{part-same, part-other, part-lt, length-digits, value-digits}
 
@@ -58,21 +58,21 @@ each-at t e f v =
     ap t (sym e₀) ∙ all-at (λ i. t (field (kind f) i)) (extent (field (kind f) 0)) (index f) (all-at (λ k. all (extent (field k 0)) (λ i. t (field k i))) 11 (kind f) e l) (subst (λ (n : ℕ). index f < n) (sym q) v)
 
 -- Fields of one kind and index are one.
-same-is : (f g : Field) → same f g ≡ true → f ≡ g
-same-is f g e =
+sameField-equal : (f g : Field) → sameField f g ≡ true → f ≡ g
+sameField-equal f g e =
     let a = eqb-true (kind f) (kind g) (and-left (eqb (kind f) (kind g)) (eqb (index f) (index g)) e) in
     let b = eqb-true (index f) (index g) (and-right (eqb (kind f) (kind g)) (eqb (index f) (index g)) e) in
     sym (field-of f .0) ∙ ap₂ field a b ∙ field-of g .0
 
-same-self : (f : Field) → same f f ≡ true
-same-self f = rw (eq-eqb (kind f) (kind f) refl, eq-eqb (index f) (index f) refl)
+sameField-self : (f : Field) → sameField f f ≡ true
+sameField-self f = rw (eq-eqb (kind f) (kind f) refl, eq-eqb (index f) (index f) refl)
 
 -- ---- each byte has one owner
 
 module _ (table : Field → ℕ × ℕ) (size : ℕ) (owner : ℕ → Field) where
   -- Byte b of the field f is inside the state, and f's.
   abbrev owns : Field → ℕ → Bool
-  owns f b = ltb (table f .0 + b) size && same (owner (table f .0 + b)) f
+  owns f b = ltb (table f .0 + b) size && sameField (owner (table f .0 + b)) f
 
   -- f has a byte, and owns all of its bytes.
   unfoldable pub owned : Field → Bool
@@ -90,7 +90,7 @@ module _ (table : Field → ℕ × ℕ) (size : ℕ) (owner : ℕ → Field) whe
       byte-of b l =
           let e = all-at (owns f) (table f .1) b (and-right (ltb 0 (table f .1)) (all (table f .1) (owns f)) (each-at owned test f v)) l in
           let o = table f .0 + b in
-          (ltb-true o size (and-left (ltb o size) (same (owner o) f) e), same-is (owner o) f (and-right (ltb o size) (same (owner o) f) e))
+          (ltb-true o size (and-left (ltb o size) (sameField (owner o) f) e), sameField-equal (owner o) f (and-right (ltb o size) (sameField (owner o) f) e))
 
       -- The last byte is inside, so all are.
       fits-in : table f .0 + table f .1 ≤ size
@@ -105,18 +105,18 @@ module _ (table : Field → ℕ × ℕ) (size : ℕ) (owner : ℕ → Field) whe
     meet f g vf vg k l hk hl e = sym (byte-of f vf k hk .1) ∙ ap owner (sym e) ∙ byte-of g vg l hl .1
 
     -- The same field is read back, and another shares no byte.
-    getAt-putAt : (s : List ℕ) (f : Field) (v : ℕ) (g : Field) → length s ≡ size → Valid f → Valid g → getAt table (putAt table s f v) g ≡ cond (same f g) v (getAt table s g)
+    getAt-putAt : (s : List ℕ) (f : Field) (v : ℕ) (g : Field) → length s ≡ size → Valid f → Valid g → getAt table (putAt table s f v) g ≡ cond (sameField f g) v (getAt table s g)
     unfolding putAt getAt
-    getAt-putAt s f v g z vf vg = go (same f g) refl
+    getAt-putAt s f v g z vf vg = go (sameField f g) refl
       where
         self : getAt table (putAt table s f v) f ≡ v
         self = ap value (part-same s (digits (table f .1) v) (table f .0) (table f .1) (length-digits (table f .1) v) (let h = fits-in f vf in omega arith)) ∙ value-digits (table f .1) v (nonempty f vf)
 
-        go : (t : Bool) → same f g ≡ t → getAt table (putAt table s f v) g ≡ cond t v (getAt table s g)
-        go true e = subst (λ (g : Field). getAt table (putAt table s f v) g ≡ v) (same-is f g e) self
+        go : (t : Bool) → sameField f g ≡ t → getAt table (putAt table s f v) g ≡ cond t v (getAt table s g)
+        go true e = subst (λ (g : Field). getAt table (putAt table s f v) g ≡ v) (sameField-equal f g e) self
         go false e = ap value (part-other s (digits (table f .1) v) (table f .0) (table g .0) (table g .1) (λ k l hk hl q.
             let m = meet f g vf vg k l (let h = length-digits (table f .1) v in omega arith) hl q in
-            true≢false (sym (subst (λ (g : Field). same f g ≡ true) m (same-self f)) ∙ e)))
+            true≢false (sym (subst (λ (g : Field). sameField f g ≡ true) m (sameField-self f)) ∙ e)))
 
 -- ---- the fresh state
 

@@ -14,7 +14,7 @@ use Rattle.rules.specs.Clock.{cut, plus, minus, signed, offset}
 use Rattle.rules.specs.Whole.{Packet, isDue}
 use Rattle.rules.proofs.ClockLaws.{turns, pow-double, cut-view, minus-view, signed-view, offset-true, key-true}
 use Rattle.rules.proofs.Integers.{up, down, nat-eq, orders, add-nat, neg-nat, diff-nat, antisym, not-le}
-use Rattle.rules.proofs.Good.{Fit}
+use Rattle.rules.proofs.Good.{InWindow}
 
 -- ---- cutting
 
@@ -95,39 +95,39 @@ pub half-pos : (c : ℕ) → 0 < half c
 unfolding half
 half-pos c = pow-pos (low c)
 
-module _ (c : ℕ) (t : ℤ) (x : Packet) (F : Fit c t (half c) x) where
+module _ (c : ℕ) (t : ℤ) (x : Packet) (F : InWindow c t (half c) x) where
   -- Its deadline is its time and the delay.
   sum : up (x .deadline) + down (x .time) ≡ down (x .deadline) + (up (x .time) + F .delay)
   sum = let a = add-nat (x .time) (pos (F .delay)) in rw (F .sum) (omega arith)
 
   -- Its offset is at least - d.
-  pub fit-from : T (leZ (negℤ (pos (F .delay))) (x .time -ℤ t))
-  fit-from = let l = F .due in omega (arith, orders, sum, diff-nat (x .time) t, neg-nat (pos (F .delay)))
+  pub window-from : T (leZ (negℤ (pos (F .delay))) (x .time -ℤ t))
+  window-from = let l = F .due in omega (arith, orders, sum, diff-nat (x .time) t, neg-nat (pos (F .delay)))
 
   -- Its offset is its time less the clock.
-  pub fit-offset : offset (bits c) (cut (bits c) (x .time)) (cut (bits c) t) ≡ x .time -ℤ t
-  fit-offset = offset-is c (x .time) t (let l = fit-from in omega (arith, orders, F .small, neg-nat (pos (F .delay)), neg-nat (pos (half c)))) (F .soon)
+  pub window-offset : offset (bits c) (cut (bits c) (x .time)) (cut (bits c) t) ≡ x .time -ℤ t
+  window-offset = offset-is c (x .time) t (let l = window-from in omega (arith, orders, F .small, neg-nat (pos (F .delay)), neg-nat (pos (half c)))) (F .soon)
 
   -- On time, its key is its deadline less the clock.
-  pub fit-on-time : T (leZ (x .time) t) → pos (minus (bits c) (cut (bits c) (x .deadline)) (cut (bits c) t)) ≡ x .deadline -ℤ t
-  fit-on-time l = key-is c (x .deadline) t (F .due) (omega (arith, orders, sum, F .small, diff-nat (x .deadline) t, turn c))
+  pub window-on-time : T (leZ (x .time) t) → pos (minus (bits c) (cut (bits c) (x .deadline)) (cut (bits c) t)) ≡ x .deadline -ℤ t
+  window-on-time l = key-is c (x .deadline) t (F .due) (omega (arith, orders, sum, F .small, diff-nat (x .deadline) t, turn c))
 
   -- Early, its key is its time less the clock.
-  pub fit-early : T (ltZ t (x .time)) → pos (minus (bits c) (cut (bits c) (x .time)) (cut (bits c) t)) ≡ x .time -ℤ t
-  fit-early l = key-is c (x .time) t (omega (arith, orders)) (let s = F .soon in omega (arith, orders, turn c))
+  pub window-early : T (ltZ t (x .time)) → pos (minus (bits c) (cut (bits c) (x .time)) (cut (bits c) t)) ≡ x .time -ℤ t
+  window-early l = key-is c (x .time) t (omega (arith, orders)) (let s = F .soon in omega (arith, orders, turn c))
 
   -- Its deadline is less than a turn ahead.
   near : T (ltZ (x .deadline -ℤ t) (pos (2 ^ bits c)))
   near = let s = F .soon in omega (arith, orders, sum, F .small, diff-nat (x .deadline) t, diff-nat (x .time) t, turn c)
 
   -- So it reads as the clock only where it is the clock.
-  pub fit-due : eqb (cut (bits c) (x .deadline)) (cut (bits c) t) ≡ isDue t x
+  pub window-due : eqb (cut (bits c) (x .deadline)) (cut (bits c) t) ≡ isDue t x
   unfolding isDue
-  fit-due = cut-same (bits c) (x .deadline) t near (F .due)
+  window-due = cut-same (bits c) (x .deadline) t near (F .due)
 
   -- The delay, read back from the two readings.
-  pub fit-delay : minus (bits c) (cut (bits c) (x .deadline)) (cut (bits c) (x .time)) ≡ F .delay
-  fit-delay =
+  pub window-delay : minus (bits c) (cut (bits c) (x .deadline)) (cut (bits c) (x .time)) ≡ F .delay
+  window-delay =
       let d = diff-nat (x .deadline) (x .time) in
       let k = key-is c (x .deadline) (x .time) (omega (arith, orders, sum)) (omega (arith, orders, sum, F .small, turn c)) in
       omega (arith, ap up k, ap down k, sum)

@@ -15,7 +15,7 @@ use borrow.Author.Tests.{eq-eqb, ne-eqb, lt-ltb, le-ltb}
 use Rattle.rules.specs.Account.{stored, Kept}
 use Rattle.rules.specs.Areas.{byte, packet, payload, has, without, elem, distinct, Grant, nobody, bestEffort, onTime, early}
 use Rattle.rules.specs.Indices.{count, counted}
-use Rattle.rules.specs.Whole.{Packet, Held, Router, withPlaces, put, Arrival, absent, refused, accepted, placed, admitted, lose, sent, isDue, settle, freed, emptied, arrival, arrivalCode, isHeld}
+use Rattle.rules.specs.Whole.{Packet, Held, Router, withPlaces, put, Arrival, absent, refused, accepted, placed, admitted, lose, sent, isDue, remaining, freed, emptied, arrival, arrivalCode, isHeld}
 use Rattle.rules.proofs.Booleans.{some-inj, none-some, and-left, and-right, or-right, not-false}
 use Rattle.rules.proofs.IndexLaws.{count-change, count-same}
 use Rattle.rules.proofs.Integers.{ltb-iff}
@@ -118,15 +118,15 @@ module _ (c : ℕ) where
   }
 
   -- What an accepted packet has passed.
-  pub record Made (r : Router) (arriving p : ℕ) (k : List ℕ) (u : ℤ) (x : Packet) : Type 0 where
-    pub here : has arriving p ≡ true
+  pub record Passed (r : Router) (arriving p : ℕ) (k : List ℕ) (u : ℤ) (x : Packet) : Type 0 where
+    pub brought : has arriving p ≡ true
     pub open-entry : eqb (r .entry (byte k 0) .mask) 0 ≡ false
     pub in-time : ltZ (u +ℤ pos (r .entry (byte k 0) .delay)) (r .clock) ≡ false
     pub room : eqb (length (r .free)) 0 ≡ false
-    pub is : made r p k u ≡ x
+    pub packet : made r p k u ≡ x
 
   -- The questions decide: a refusal by 6 or more, or a packet that has passed them all.
-  pub arrival-by : (r : Router) (arriving p : ℕ) (k : List ℕ) (u : ℤ) (P : Arrival → Type 0) → P absent → ((q : ℕ) → 6 ≤ q → P (refused q)) → (Made r arriving p k u (made r p k u) → P (accepted (made r p k u))) → P (arrival c r arriving p k u)
+  pub arrival-by : (r : Router) (arriving p : ℕ) (k : List ℕ) (u : ℤ) (P : Arrival → Type 0) → P absent → ((q : ℕ) → 6 ≤ q → P (refused q)) → (Passed r arriving p k u (made r p k u) → P (accepted (made r p k u))) → P (arrival c r arriving p k u)
   unfolding arrival
   arrival-by r arriving p k u P a b d = go (has arriving p) (eqb (r .entry (byte k 0) .mask) 0) (ltZ (u +ℤ pos (r .entry (byte k 0) .delay)) (r .clock)) (eqb (length (r .free)) 0) refl refl refl refl
     where
@@ -136,12 +136,12 @@ module _ (c : ℕ) where
       go true true v z e f g h = b 6 (omega arith)
       go true false true z e f g h = b 7 (omega arith)
       go true false false true e f g h = b 8 (omega arith)
-      go true false false false e f g h = d (record { here = e; open-entry = f; in-time = g; room = h; is = refl })
+      go true false false false e f g h = d (record { brought = e; open-entry = f; in-time = g; room = h; packet = refl })
 
   -- So an accepted packet has passed them.
-  pub arrival-made : (r : Router) (arriving p : ℕ) (k : List ℕ) (u : ℤ) (x : Packet) → arrival c r arriving p k u ≡ accepted x → Made r arriving p k u x
-  arrival-made r arriving p k u x = arrival-by r arriving p k u (λ a. a ≡ accepted x → Made r arriving p k u x)
-      (λ e. let z : _≡_ {A = ℕ} 0 1 = cc in absurd (omega arith)) (λ q l e. let z : _≡_ {A = ℕ} 0 1 = cc in absurd (omega arith)) (λ m e. subst (Made r arriving p k u) (cc) m)
+  pub arrival-passed : (r : Router) (arriving p : ℕ) (k : List ℕ) (u : ℤ) (x : Packet) → arrival c r arriving p k u ≡ accepted x → Passed r arriving p k u x
+  arrival-passed r arriving p k u x = arrival-by r arriving p k u (λ a. a ≡ accepted x → Passed r arriving p k u x)
+      (λ e. let z : _≡_ {A = ℕ} 0 1 = cc in absurd (omega arith)) (λ q l e. let z : _≡_ {A = ℕ} 0 1 = cc in absurd (omega arith)) (λ m e. subst (Passed r arriving p k u) (cc) m)
 
   -- Its answer, question by question.
   pub arrival-code : (r : Router) (arriving p : ℕ) (k : List ℕ) (u : ℤ)
@@ -250,7 +250,7 @@ held-lose p (some h) = refl
 
 -- Emptying loses no place.
 pub emptied-kept : (T : ℤ) (n : ℕ) (w : Router) → n ≤ 256 → Kept (w .place) (w .free) → Kept (emptied T n w .place) (emptied T n w .free)
-unfolding emptied settle freed isHeld
+unfolding emptied remaining freed isHeld
 emptied-kept T zero w l K = K
 emptied-kept T (suc n) w l K = go (emptied T n w .place) (emptied T n w .free) (emptied-kept T n w (omega arith) K) (emptied T n w .place n) refl
   where
@@ -258,7 +258,7 @@ emptied-kept T (suc n) w l K = go (emptied T n w .place) (emptied T n w .free) (
     drop-or f u K h e true = kept-push n (omega arith) (ap isHeld e) K
     drop-or f u K h e false = kept-same (held-put f n (some h) (sym (ap isHeld e))) K
 
-    go : (f : ℕ → Option Held) (u : List ℕ) → Kept f u → (v : Option Held) → f n ≡ v → Kept (put f n (settle T v)) (freed v (settle T v) n u)
+    go : (f : ℕ → Option Held) (u : List ℕ) → Kept f u → (v : Option Held) → f n ≡ v → Kept (put f n (remaining T v)) (freed v (remaining T v) n u)
     go f u K none e = kept-same (held-put f n none (sym (ap isHeld e))) K
     go f u K (some h) e = drop-or f u K h e (isDue T (h .packet) || eqb (h .left) 0)
 
@@ -268,29 +268,29 @@ unfolding emptied
 emptied-frame T zero w = refl
 emptied-frame T (suc n) w =
     let r = emptied T n w in
-    ap (λ s. withPlaces s (put (r .place) n (settle T (r .place n))) (freed (r .place n) (settle T (r .place n)) n (r .free))) (emptied-frame T n w)
+    ap (λ s. withPlaces s (put (r .place) n (remaining T (r .place n))) (freed (r .place n) (remaining T (r .place n)) n (r .free))) (emptied-frame T n w)
 
 -- ---- what the emptying leaves in each place
 
 -- Below n it has settled, from n on it is as before.
-pub emptied-at : (T : ℤ) (n : ℕ) (w : Router) (i : ℕ) → emptied T n w .place i ≡ cond (ltb i n) (settle T (w .place i)) (w .place i)
+pub emptied-at : (T : ℤ) (n : ℕ) (w : Router) (i : ℕ) → emptied T n w .place i ≡ cond (ltb i n) (remaining T (w .place i)) (w .place i)
 unfolding emptied
 emptied-at T zero w i = rw (le-ltb i 0 (omega arith))
 emptied-at T (suc n) w i = go (emptied T n w .place) (ℕ-discrete i n) (emptied-at T n w)
   where
-    go : (f : ℕ → Option Held) → Dec (i ≡ n) → ((j : ℕ) → f j ≡ cond (ltb j n) (settle T (w .place j)) (w .place j)) → put f n (settle T (f n)) i ≡ cond (ltb i (suc n)) (settle T (w .place i)) (w .place i)
-    go f (yes q) h = rw (q, put-same f n (settle T (f n)), h n, le-ltb n n (omega arith), lt-ltb n (suc n) (omega arith))
-    go f (no q) h = rw (put-other f n (settle T (f n)) i q, h i, ltb-iff i n i (suc n) (omega arith) (omega arith))
+    go : (f : ℕ → Option Held) → Dec (i ≡ n) → ((j : ℕ) → f j ≡ cond (ltb j n) (remaining T (w .place j)) (w .place j)) → put f n (remaining T (f n)) i ≡ cond (ltb i (suc n)) (remaining T (w .place i)) (w .place i)
+    go f (yes q) h = rw (q, put-same f n (remaining T (f n)), h n, le-ltb n n (omega arith), lt-ltb n (suc n) (omega arith))
+    go f (no q) h = rw (put-other f n (remaining T (f n)) i q, h i, ltb-iff i n i (suc n) (omega arith) (omega arith))
 
 -- So all 256 have settled.
-pub emptied-place : (T : ℤ) (w : Router) (i : ℕ) → i < 256 → emptied T 256 w .place i ≡ settle T (w .place i)
+pub emptied-place : (T : ℤ) (w : Router) (i : ℕ) → i < 256 → emptied T 256 w .place i ≡ remaining T (w .place i)
 emptied-place T w i l = emptied-at T 256 w i ∙ rw (lt-ltb i 256 l)
 
 -- By cases of the two tests.
-settle-some : (T : ℤ) (v : Option Held) (h : Held) → settle T v ≡ some h → (v ≡ some h) × (isDue T (h .packet) ≡ false) × (eqb (h .left) 0 ≡ false)
-unfolding settle
-settle-some T none h e = none-some e
-settle-some T (some k) h e = go (isDue T (k .packet)) (eqb (k .left) 0) refl refl e
+remaining-some : (T : ℤ) (v : Option Held) (h : Held) → remaining T v ≡ some h → (v ≡ some h) × (isDue T (h .packet) ≡ false) × (eqb (h .left) 0 ≡ false)
+unfolding remaining
+remaining-some T none h e = none-some e
+remaining-some T (some k) h e = go (isDue T (k .packet)) (eqb (k .left) 0) refl refl e
   where
     go : (s t : Bool) → isDue T (k .packet) ≡ s → eqb (k .left) 0 ≡ t → cond (s || t) none (some k) ≡ some h → (some k ≡ some h) × (isDue T (h .packet) ≡ false) × (eqb (h .left) 0 ≡ false)
     go true t p q e = none-some e
@@ -299,4 +299,4 @@ settle-some T (some k) h e = go (isDue T (k .packet)) (eqb (k .left) 0) refl ref
 
 -- What is held after the emptying was held before, is not due and has a port left.
 pub emptied-held : (T : ℤ) (w : Router) (i : ℕ) → i < 256 → (h : Held) → emptied T 256 w .place i ≡ some h → (w .place i ≡ some h) × (isDue T (h .packet) ≡ false) × (eqb (h .left) 0 ≡ false)
-emptied-held T w i l h e = settle-some T (w .place i) h (sym (emptied-place T w i l) ∙ e)
+emptied-held T w i l h e = remaining-some T (w .place i) h (sym (emptied-place T w i l) ∙ e)

@@ -17,8 +17,8 @@ pub record Reply : Type 0 where
   pub answers : List ℕ
 
 -- The reply of a call that is lent neither.
-abbrev pub quiet : ℕ → Reply
-quiet n = record { number = n; outgoing = []; answers = [] }
+abbrev pub numberReply : ℕ → Reply
+numberReply n = record { number = n; outgoing = []; answers = [] }
 
 abbrev pub byte : List ℕ → ℕ → ℕ
 byte l i = getD l i 0

@@ -8,8 +8,8 @@ use lib.Dec.{leb, eqb}
 use lib.IntN.{ℤ, pos, negℤ, _+ℤ_, _-ℤ_}
 use lib.Signed.{_≤ℤ_, _<ℤ_}
 use Rattle.rules.specs.Clock.{cut, offset}
-use Rattle.rules.specs.Areas.{Reply, quiet, areasFull, Bytes, bits, half, packet, stamp, has, fits}
-use Rattle.rules.specs.Whole.{Router, TickCall, Report, settings, ticked, outgoingBytes, answerBytes}
+use Rattle.rules.specs.Areas.{Reply, numberReply, areasFull, Bytes, bits, half, packet, stamp, has, fits}
+use Rattle.rules.specs.Whole.{Router, TickCall, Report, written, ticked, outgoingBytes, answerBytes}
 
 -- A call as the firmware makes it: a control write, or a tick with the outgoing and answers areas that it is lent.
 pub data Call : Type 0 where
@@ -30,14 +30,14 @@ module _ (c : ℕ) where
       cond (not (areasFull (k .arrivals) out ans)) 1 (cond (not (leb (k .arriving) 31 && leb (k .bestEffort) 31)) 3 0)
 
   unfoldable pub accept : Router → Call → Step
-  accept r (control register v) = record { reply = quiet 0; router = settings register v r; report = none }
+  accept r (control register v) = record { reply = numberReply 0; router = written register v r; report = none }
   accept r (tick k out ans) =
       let t = ticked c r k in
       record { reply = record { number = 0; outgoing = outgoingBytes c (t .report); answers = answerBytes (t .report) }; router = t .router; report = some (t .report) }
 
   -- A refused call changes nothing, and leaves outgoing and answers as they were.
   unfoldable pub refuse : Router → Call → ℕ → Step
-  refuse r (control register v) n = record { reply = quiet n; router = r; report = none }
+  refuse r (control register v) n = record { reply = numberReply n; router = r; report = none }
   refuse r (tick k out ans) n = record { reply = record { number = n; outgoing = out; answers = ans }; router = r; report = none }
 
   unfoldable pub wholeStep : Router → Call → Step

@@ -15,10 +15,10 @@ use Rattle.rules.specs.Questions.{fresh, stack, sound}
 use Rattle.rules.specs.Tick.{Outcome}
 use Rattle.rules.specs.Whole.{Router, Held, Report, start, packetBytes}
 use Rattle.rules.specs.Calls.{Call, control, tick, wholeStep, routerAfter, wholeReplies, ByteCall, Proper, feed}
-use Rattle.rules.specs.Account.{Done, stored, Accounts}
+use Rattle.rules.specs.Account.{NotedTick, stored, Accounts}
 
 -- An accepted tick is noted, a refused one and a control write are not.
-unfoldable pub noted : Router → Call → List ℕ → Option Report → List Done → List Done
+unfoldable pub noted : Router → Call → List ℕ → Option Report → List NotedTick → List NotedTick
 noted r (control register v) out t l = l
 noted r (tick k o a) out none l = l
 noted r (tick k o a) out (some t) l = record { met = r; call = k; report = t; outgoing = out } ∷ l
@@ -40,7 +40,7 @@ module _ (B : Board) where
   byteReplies r (k ∷ ks) = let o = byteStep r k in o .reply ∷ byteReplies (o .store) ks
 
   -- The accepted ticks, each with what the router that never turns over did and the outgoing area of the router over bytes.
-  unfoldable pub history : Store → Router → List Call → List Done
+  unfoldable pub history : Store → Router → List Call → List NotedTick
   history r w [] = []
   history r w (k ∷ ks) =
       let b = byteStep r k in

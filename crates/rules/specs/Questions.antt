@@ -8,7 +8,7 @@ use lib.IntN.{pos, negℤ}
 use lib.Signed.{leZ}
 use Rattle.rules.specs.Clock.{minus, offset}
 use Rattle.rules.specs.Indices.{all, topFirst}
-use Rattle.rules.specs.Areas.{Store, quiet, areasFull, bits, half, packet, stamp, fits, elem, distinct}
+use Rattle.rules.specs.Areas.{Store, numberReply, areasFull, bits, half, packet, stamp, fits, elem, distinct}
 use Rattle.rules.specs.Board.{Board, clock, horizon, latch, free, idle, time, deadline, mask, delay, routes}
 use Rattle.rules.specs.Control.{written}
 use Rattle.rules.specs.Tick.{Outcome, ticked}
@@ -74,12 +74,12 @@ module _ (B : Board) where
   fresh t = record { state = freshState t; memory = replicate 5120 0 }
 
   unfoldable pub makeFresh : Store → ℕ → Outcome
-  makeFresh r t = cond (full r) (record { reply = quiet 0; store = fresh t }) (record { reply = quiet 1; store = r })
+  makeFresh r t = cond (full r) (record { reply = numberReply 0; store = fresh t }) (record { reply = numberReply 1; store = r })
 
   unfoldable pub controlWrite : Store → ℕ → ℕ → Outcome
   controlWrite r register v =
       let n = controlRefusal r register v in
-      cond (eqb n 0) (record { reply = quiet 0; store = record { state = written B register v (r .state); memory = r .memory } }) (record { reply = quiet n; store = r })
+      cond (eqb n 0) (record { reply = numberReply 0; store = record { state = written B register v (r .state); memory = r .memory } }) (record { reply = numberReply n; store = r })
 
   unfoldable pub tick : Store → ℕ → ℕ → List ℕ → List ℕ → List ℕ → Outcome
   tick r arriving waiting area out ans =

@@ -15,12 +15,12 @@ module _ (B : Board) where
   open Board B using (clockBytes as c, get)
 
   -- Slot i holds a packet.
-  abbrev pub held : List ℕ → ℕ → Bool
-  held s i = not (eqb (get s (mask i)) 0)
+  abbrev pub occupied : List ℕ → ℕ → Bool
+  occupied s i = not (eqb (get s (mask i)) 0)
 
   -- The free count and the packets stored.
   abbrev pub used : List ℕ → ℕ
-  used s = get s free + count 256 (held s)
+  used s = get s free + count 256 (occupied s)
 
   -- State and memory have their lengths and are sound, and no slot is lost.
   pub record Intact (r : Store) : Type 0 where

@@ -107,10 +107,10 @@ module _ (B : Board) where
 
   -- Step 5 for the slots below i: those that had a port to serve in `held` and have none now.
   unfoldable pub returned : ℕ → List ℕ → List ℕ → List ℕ
-  returned zero held s = s
-  returned (suc i) held s =
-      let s′ = returned i held s in
-      cond (not (eqb (get held (mask i)) 0) && eqb (get s′ (mask i)) 0) (giveBack i s′) s′
+  returned zero before s = s
+  returned (suc i) before s =
+      let s′ = returned i before s in
+      cond (not (eqb (get before (mask i)) 0) && eqb (get s′ (mask i)) 0) (giveBack i s′) s′
 
   -- Step 6.
   abbrev pub advanced : List ℕ → List ℕ

@@ -62,8 +62,8 @@ abbrev pub withPlaces : Router → (ℕ → Option Held) → List ℕ → Router
 withPlaces r f l = record { clock = r .clock; horizon = r .horizon; latch = r .latch; entry = r .entry; place = f; free = l }
 
 -- A control write does here what it does in the router over bytes.
-unfoldable pub settings : ℕ → ℕ → Router → Router
-settings register v r = record {
+unfoldable pub written : ℕ → ℕ → Router → Router
+written register v r = record {
   clock = r .clock;
   horizon = λ p. cond (eqb register 5 && has (r .latch 3) p) v (r .horizon p);
   latch = cond (eqb register 3 || eqb register 5) (r .latch) (put (r .latch) (latchPlace register) v);
@@ -89,9 +89,9 @@ admitted (refused q) r = r
 admitted (accepted x) r = placed (r .free) x r
 
 -- The packet in a place that has port p left.
-unfoldable pub waiting : Option Held → ℕ → Option Packet
-waiting none p = none
-waiting (some x) p = cond (has (x .left) p) (some (x .packet)) none
+unfoldable pub toServe : Option Held → ℕ → Option Packet
+toServe none p = none
+toServe (some x) p = cond (has (x .left) p) (some (x .packet)) none
 
 unfoldable pub filter : (Packet → Bool) → Option Packet → Option Packet
 filter t none = none
@@ -114,9 +114,9 @@ unfoldable pub grant : Router → ℕ → ℕ → Grant (ℕ × Packet)
 grant r b p =
     let T = r .clock in
     granted
-    (least byDeadline (λ i. filter (λ x. leZ (x .time) T) (waiting (r .place i) p)) 256)
+    (least byDeadline (λ i. filter (λ x. leZ (x .time) T) (toServe (r .place i) p)) 256)
     (has b p)
-    (least byTime (λ i. filter (λ x. ltZ T (x .time)) (waiting (r .place i) p)) 256)
+    (least byTime (λ i. filter (λ x. ltZ T (x .time)) (toServe (r .place i) p)) 256)
     T (r .horizon p)
 
 unfoldable pub lose : ℕ → Option Held → Option Held
@@ -144,12 +144,12 @@ due T (some x) = cond (isDue T x) (x ∷ []) []
 -- The packets withdrawn on port p from the places below i.
 unfoldable pub withdrawn : ℤ → (ℕ → Option Held) → ℕ → ℕ → List Packet
 withdrawn T f p zero = []
-withdrawn T f p (suc i) = withdrawn T f p i ++ due T (waiting (f i) p)
+withdrawn T f p (suc i) = withdrawn T f p i ++ due T (toServe (f i) p)
 
 -- What a place holds once its due ports are lost.
-unfoldable pub settle : ℤ → Option Held → Option Held
-settle T none = none
-settle T (some x) = cond (isDue T (x .packet) || eqb (x .left) 0) none (some x)
+unfoldable pub remaining : ℤ → Option Held → Option Held
+remaining T none = none
+remaining T (some x) = cond (isDue T (x .packet) || eqb (x .left) 0) none (some x)
 
 unfoldable pub isHeld : Option Held → Bool
 isHeld none = false
@@ -163,7 +163,7 @@ unfoldable pub emptied : ℤ → ℕ → Router → Router
 emptied T zero r = r
 emptied T (suc i) r =
     let r′ = emptied T i r in
-    let h = settle T (r′ .place i) in
+    let h = remaining T (r′ .place i) in
     withPlaces r′ (put (r′ .place) i h) (freed (r′ .place i) h i (r′ .free))
 
 abbrev pub advanced : Router → Router
@@ -195,19 +195,19 @@ module _ (c : ℕ) where
   abbrev pub meets : TickCall → Router → ℕ → Arrival
   meets call r p = arrival r (call .arriving) p (packet (call .arrivals) p) (call .times p)
 
-  unfoldable pub arrivals : ℕ → TickCall → Router → Router
-  arrivals zero call r = r
-  arrivals (suc p) call r = let r′ = arrivals p call r in admitted (meets call r′ p) r′
+  unfoldable pub arrived : ℕ → TickCall → Router → Router
+  arrived zero call r = r
+  arrived (suc p) call r = let r′ = arrived p call r in admitted (meets call r′ p) r′
 
   unfoldable pub ticked : Router → TickCall → Ticked
   ticked r call =
-      let r₁ = arrivals 5 call r in
+      let r₁ = arrived 5 call r in
       let b = call .bestEffort in
       let r₂ = served 5 b r₁ in
       record {
         router = advanced (emptied (r₂ .clock) 256 r₂);
         report = record {
-          arrival = λ p. meets call (arrivals p call r) p;
+          arrival = λ p. meets call (arrived p call r) p;
           grant = λ p. grant (served p b r₁) b p;
           withdrawn = λ p. withdrawn (r₂ .clock) (r₂ .place) p 256;
         };

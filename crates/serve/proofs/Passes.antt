@@ -17,7 +17,7 @@ use Rattle.rules.specs.Tick.{grant, sent, served, isDue, withdrawn, withdrawals
 use Rattle.rules.proofs.IndexLaws.{count-same}
 use Rattle.rules.proofs.FieldBytes.{get-other, length-put, put-again}
 use Rattle.serve.specs.Sends.{sends}
-use Rattle.area.specs.Room.{held}
+use Rattle.area.specs.Room.{occupied}
 use Rattle.settle.specs.Slots.{left, settleSlot, settled, missed}
 use Rattle.settle.proofs.Stores.{mask-same, mask-other, mask-mask, put-comm}
 use Rattle.serve.proofs.Grants.{Winner, winner, length-served}
@@ -132,46 +132,46 @@ module _ (s x : List ℕ) (sized : length x ≡ 1804) where
   length-returned : (i : ℕ) → length (returned board8 i s x) ≡ 1804
   unfolding returned
   length-returned zero = sized
-  length-returned (suc i) = go (returned board8 i s x) (length-returned i) (held s i && eqb (board8 .get (returned board8 i s x) (mask i)) 0)
+  length-returned (suc i) = go (returned board8 i s x) (length-returned i) (occupied s i && eqb (board8 .get (returned board8 i s x) (mask i)) 0)
     where
       go : (y : List ℕ) → length y ≡ 1804 → (d : Bool) → length (cond d (giveBack board8 i y) y) ≡ 1804
       go y e true = length-giveBack y e i
       go y e false = e
 
-  free-returned : (i : ℕ) → board8 .get (returned board8 i s x) free ≤ board8 .get x free + count i (held s)
+  free-returned : (i : ℕ) → board8 .get (returned board8 i s x) free ≤ board8 .get x free + count i (occupied s)
   unfolding returned count counted
   free-returned zero = omega arith
-  free-returned (suc i) = go (returned board8 i s x) (length-returned i) (free-returned i) (held s i) (eqb (board8 .get (returned board8 i s x) (mask i)) 0)
+  free-returned (suc i) = go (returned board8 i s x) (length-returned i) (free-returned i) (occupied s i) (eqb (board8 .get (returned board8 i s x) (mask i)) 0)
     where
-      go : (y : List ℕ) → length y ≡ 1804 → board8 .get y free ≤ board8 .get x free + count i (held s) → (h d : Bool)
-          → board8 .get (cond (h && d) (giveBack board8 i y) y) free ≤ board8 .get x free + (count i (held s) + cond h 1 0)
+      go : (y : List ℕ) → length y ≡ 1804 → board8 .get y free ≤ board8 .get x free + count i (occupied s) → (h d : Bool)
+          → board8 .get (cond (h && d) (giveBack board8 i y) y) free ≤ board8 .get x free + (count i (occupied s) + cond h 1 0)
       go y e k true true = let a = free-giveBack y e i in omega arith
       go y e k true false = omega arith
       go y e k false d = omega arith
 
-  module _ (room : board8 .get x free + count 256 (held s) ≤ 256) where
+  module _ (room : board8 .get x free + count 256 (occupied s) ≤ 256) where
     -- A mask from slot i on may as well be stored afterwards.
     returned-mask : (j v i : ℕ) → i ≤ j → i ≤ 256 → returned board8 i s (board8 .put x (mask j) v) ≡ board8 .put (returned board8 i s x) (mask j) v
     unfolding returned
     returned-mask j v zero h k = refl
     returned-mask j v (suc i) h k =
-        ap (λ (y : List ℕ). cond (held s i && eqb (board8 .get y (mask i)) 0) (giveBack board8 i y) y) (returned-mask j v i (omega arith) (omega arith))
+        ap (λ (y : List ℕ). cond (occupied s i && eqb (board8 .get y (mask i)) 0) (giveBack board8 i y) y) (returned-mask j v i (omega arith) (omega arith))
         ∙ go (returned board8 i s x) (length-returned i) (free-returned i)
       where
-        pick : (y : List ℕ) → length y ≡ 1804 → board8 .get y free ≤ board8 .get x free + count i (held s) → (h : Bool) → held s i ≡ h → (d : Bool)
+        pick : (y : List ℕ) → length y ≡ 1804 → board8 .get y free ≤ board8 .get x free + count i (occupied s) → (h : Bool) → occupied s i ≡ h → (d : Bool)
             → cond (h && d) (giveBack board8 i (board8 .put y (mask j) v)) (board8 .put y (mask j) v) ≡ board8 .put (cond (h && d) (giveBack board8 i y) y) (mask j) v
-        pick y e f true q true = giveBack-mask y i (let a = count-below (held s) i 256 (omega arith) q in omega arith) e j v
+        pick y e f true q true = giveBack-mask y i (let a = count-below (occupied s) i 256 (omega arith) q in omega arith) e j v
         pick y e f true q false = refl
         pick y e f false q d = refl
 
-        go : (y : List ℕ) → length y ≡ 1804 → board8 .get y free ≤ board8 .get x free + count i (held s)
-            → cond (held s i && eqb (board8 .get (board8 .put y (mask j) v) (mask i)) 0) (giveBack board8 i (board8 .put y (mask j) v)) (board8 .put y (mask j) v)
-            ≡ board8 .put (cond (held s i && eqb (board8 .get y (mask i)) 0) (giveBack board8 i y) y) (mask j) v
-        go y e f = rw (mask-other y j i v (λ q. omega arith)) (pick y e f (held s i) refl (eqb (board8 .get y (mask i)) 0))
+        go : (y : List ℕ) → length y ≡ 1804 → board8 .get y free ≤ board8 .get x free + count i (occupied s)
+            → cond (occupied s i && eqb (board8 .get (board8 .put y (mask j) v) (mask i)) 0) (giveBack board8 i (board8 .put y (mask j) v)) (board8 .put y (mask j) v)
+            ≡ board8 .put (cond (occupied s i && eqb (board8 .get y (mask i)) 0) (giveBack board8 i y) y) (mask j) v
+        go y e f = rw (mask-other y j i v (λ q. omega arith)) (pick y e f (occupied s i) refl (eqb (board8 .get y (mask i)) 0))
 
 -- ---- the pass is the steps, for the slots below k
 
-module _ (s l : List ℕ) (f : ℕ → ℕ) (sized : length s ≡ 1804) (room : board8 .get s free + count 256 (held s) ≤ 256)
+module _ (s l : List ℕ) (f : ℕ → ℕ) (sized : length s ≡ 1804) (room : board8 .get s free + count 256 (occupied s) ≤ 256)
     (fits : (i : ℕ) → i < 256 → left s l i ≡ f i) (none : (i : ℕ) → i < 256 → board8 .get s (mask i) ≡ 0 → f i ≡ 0) where
   abbrev fourth : ℕ → List ℕ
   fourth k = withdrawn board8 k (masked f s k)
@@ -196,7 +196,7 @@ module _ (s l : List ℕ) (f : ℕ → ℕ) (sized : length s ≡ 1804) (room : 
 
   -- Steps 4 and 5 at slot k from the state r, where the slot is as it was.
   slot-steps : (k : ℕ) → k < 256 → (r : List ℕ) → board8 .get r (mask k) ≡ board8 .get s (mask k)
-      → settleSlot k (held s k) (f k) (isDue board8 s k) r ≡ cond (held s k && eqb (last k) 0) (giveBack board8 k (board8 .put r (mask k) (last k))) (board8 .put r (mask k) (last k))
+      → settleSlot k (occupied s k) (f k) (isDue board8 s k) r ≡ cond (occupied s k && eqb (last k) 0) (giveBack board8 k (board8 .put r (mask k) (last k))) (board8 .put r (mask k) (last k))
   slot-steps k h r e = go (eqb (board8 .get s (mask k)) 0) refl (isDue board8 s k) (eqb (f k) 0) refl
     where
       kept : board8 .get s (mask k) ≡ 0 → board8 .put r (mask k) 0 ≡ r
@@ -216,9 +216,9 @@ module _ (s l : List ℕ) (f : ℕ → ℕ) (sized : length s ≡ 1804) (room : 
   unfolding settled returned withdrawn masked
   passes zero h = refl
   passes (suc k) h =
-      ap (λ (m : ℕ). settleSlot k (held s k) m (isDue board8 s k) (settled s l k)) (fits k (omega arith))
+      ap (λ (m : ℕ). settleSlot k (occupied s k) m (isDue board8 s k) (settled s l k)) (fits k (omega arith))
       ∙ slot-steps k (omega arith) (settled s l k) (mask-kept s l sized room k (omega arith))
-      ∙ ap (λ (r : List ℕ). cond (held s k && eqb (last k) 0) (giveBack board8 k (board8 .put r (mask k) (last k))) (board8 .put r (mask k) (last k))) (passes k (omega arith))
+      ∙ ap (λ (r : List ℕ). cond (occupied s k && eqb (last k) 0) (giveBack board8 k (board8 .put r (mask k) (last k))) (board8 .put r (mask k) (last k))) (passes k (omega arith))
       ∙ sym (fifth (returned board8 k s (fourth k)) (length-returned s (fourth k) long k) (back k (omega arith) (omega arith)))
     where
       long : length (fourth k) ≡ 1804
@@ -231,10 +231,10 @@ module _ (s l : List ℕ) (f : ℕ → ℕ) (sized : length s ≡ 1804) (room : 
       back i a b = returned-mask s (fourth k) long (rw free-same room) k (last k) i a b
 
       fifth : (r : List ℕ) → length r ≡ 1804 → returned board8 k s (board8 .put (fourth k) (mask k) (last k)) ≡ board8 .put r (mask k) (last k)
-          → returned board8 (suc k) s (fourth (suc k)) ≡ cond (held s k && eqb (last k) 0) (giveBack board8 k (board8 .put r (mask k) (last k))) (board8 .put r (mask k) (last k))
+          → returned board8 (suc k) s (fourth (suc k)) ≡ cond (occupied s k && eqb (last k) 0) (giveBack board8 k (board8 .put r (mask k) (last k))) (board8 .put r (mask k) (last k))
       fifth r e q =
-          ap (λ (x : List ℕ). let y = returned board8 k s x in cond (held s k && eqb (board8 .get y (mask k)) 0) (giveBack board8 k y) y) (fourth-suc k)
-          ∙ ap (λ (y : List ℕ). cond (held s k && eqb (board8 .get y (mask k)) 0) (giveBack board8 k y) y) q
+          ap (λ (x : List ℕ). let y = returned board8 k s x in cond (occupied s k && eqb (board8 .get y (mask k)) 0) (giveBack board8 k y) y) (fourth-suc k)
+          ∙ ap (λ (y : List ℕ). cond (occupied s k && eqb (board8 .get y (mask k)) 0) (giveBack board8 k y) y) q
           ∙ rw (mask-same r k (last k) e (omega arith))
 
 -- ---- steps 2 and 3 store masks only
@@ -273,7 +273,7 @@ module _ (waiting : ℕ) (s : List ℕ) (sized : length s ≡ 1804) where
   sends-leave i h = let q = sends-left s waiting sized 5 i (omega arith) h in omega arith
 
   -- One pass with the sent masks does steps 3 to 5.
-  settled-is : board8 .get s free + count 256 (held s) ≤ 256 → settled s (sends s waiting 5) 256 ≡ returned board8 256 s (withdrawn board8 256 (served board8 5 waiting s))
+  settled-is : board8 .get s free + count 256 (occupied s) ≤ 256 → settled s (sends s waiting 5) 256 ≡ returned board8 256 s (withdrawn board8 256 (served board8 5 waiting s))
   settled-is room =
       passes s (sends s waiting 5) (λ j. board8 .get (served board8 5 waiting s) (mask j)) sized room sends-leave (λ i h z. let q = sends-left s waiting sized 5 i (omega arith) h in omega arith) 256 (omega arith)
       ∙ ap (λ (x : List ℕ). returned board8 256 s (withdrawn board8 256 x)) (sym (served-masked 5))
@@ -294,6 +294,6 @@ module _ (waiting : ℕ) (s : List ℕ) (sized : length s ≡ 1804) where
     unfolding perPort
     counted-is n q = q ∙ rw (e, missed-is 0, missed-is 1, missed-is 2, missed-is 3, missed-is 4)
 
-    pub advanced-is : board8 .get s free + count 256 (held s) ≤ 256 → (r r′ : List ℕ) → r ≡ settled s l 256 → r′ ≡ advanced board8 r
+    pub advanced-is : board8 .get s free + count 256 (occupied s) ≤ 256 → (r r′ : List ℕ) → r ≡ settled s l 256 → r′ ≡ advanced board8 r
         → r′ ≡ advanced board8 (returned board8 256 s (withdrawn board8 256 (served board8 5 waiting s)))
     advanced-is room r r′ q a = a ∙ ap (advanced board8) (q ∙ ap (λ (x : List ℕ). settled s x 256) e ∙ settled-is room)

@@ -8,14 +8,14 @@ ghost use Rattle.rules.specs.Areas as Areas;
 ghost use Rattle.rules.specs.Board8.{board8};
 ghost use Rattle.rules.specs.Tick.{grant, grantBytes};
 ghost use Rattle.choose.specs.Ranks.{best, Bests};
-ghost use Rattle.choose.specs.Grants.{the};
+ghost use Rattle.choose.specs.Grants.{grantOf};
 ghost use Rattle.serve.specs.Sends.{marked, sends};
 use area::SlotAddress;
 use choose::Grant;
 
 // A port's answer.
 fn code(g: Grant) -> u8
-    ensures { λ r. ⌜ r ≡ Areas.grantCode (the g) ⌝ }
+    ensures { λ r. ⌜ r ≡ Areas.grantCode (grantOf g) ⌝ }
 {
     match g {
         Grant::Nobody => 0,
@@ -40,7 +40,7 @@ fn packet(memory: &[u8], s: SlotAddress) -> [u8; 20]
 // What a port sends.
 fn bytes(memory: &[u8], g: Grant) -> [u8; 20]
     requires { ⌜ length (now memory) ≡ 5120 ⌝ }
-    ensures { λ r. ⌜ r ≡ grantBytes (now (memory .entry)) (the g) ⌝ }
+    ensures { λ r. ⌜ r ≡ grantBytes (now (memory .entry)) (grantOf g) ⌝ }
 {
     match g {
         Grant::Nobody => [0u8; 20],
@@ -62,7 +62,7 @@ fn mark_slot(sent: &mut [u8; 256], port: u8, s: SlotAddress)
 // The port joins the ports that send its slot, if it is granted one.
 fn mark(sent: &mut [u8; 256], port: u8, g: Grant)
     requires { ⌜ (port < 5) × ((i : ℕ) → getD (now sent) i 0 < 2 ^ port) ⌝ }
-    ensures { λ _. ⌜ now (sent .exit) ≡ marked port (the g) (now (sent .entry)) ⌝ }
+    ensures { λ _. ⌜ now (sent .exit) ≡ marked port (grantOf g) (now (sent .entry)) ⌝ }
 {
     match g {
         Grant::Nobody => {}

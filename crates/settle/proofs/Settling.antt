@@ -18,7 +18,7 @@ use Rattle.rules.proofs.Masks.{has-zero}
 use Rattle.rules.proofs.FieldBytes.{get-other, put-again, length-put, free-put-free, free-put-one}
 use Rattle.settle.specs.declared.Counts.{Counts}
 use Rattle.settle.specs.Counts.{Few, more, slotCounts, counts}
-use Rattle.area.specs.Room.{held}
+use Rattle.area.specs.Room.{occupied}
 use Rattle.settle.specs.Slots.{left, slotAfter, settled, missed}
 use Rattle.settle.proofs.Stores.{put-comm, put-comm-free, get-put-free}
 
@@ -90,7 +90,7 @@ module _ (s l : List ℕ) (sized : length s ≡ 1804) where
   pub length-settled : (i : ℕ) → length (settled s l i) ≡ 1804
   unfolding settled
   length-settled zero = sized
-  length-settled (suc i) = go (held s i) (isDue board8 s i || eqb (left s l i) 0) (settled s l i) (length-settled i)
+  length-settled (suc i) = go (occupied s i) (isDue board8 s i || eqb (left s l i) 0) (settled s l i) (length-settled i)
     where
       go : (h b : Bool) (r : List ℕ) → length r ≡ 1804 → length (cond h (cond b (giveBack board8 i (board8 .put r (mask i) 0)) (board8 .put r (mask i) (left s l i))) r) ≡ 1804
       go true true r e = length-giveBack (board8 .put r (mask i) 0) (length-put r (mask i) 0 ∙ e) i
@@ -98,13 +98,13 @@ module _ (s l : List ℕ) (sized : length s ≡ 1804) where
       go false b r e = e
 
   -- It gives back no more slots than it passed with a port to serve.
-  free-settled : (i : ℕ) → board8 .get (settled s l i) free ≤ board8 .get s free + count i (held s)
+  free-settled : (i : ℕ) → board8 .get (settled s l i) free ≤ board8 .get s free + count i (occupied s)
   unfolding settled count counted
   free-settled zero = omega arith
-  free-settled (suc i) = go (held s i) (isDue board8 s i || eqb (left s l i) 0) (settled s l i) (length-settled i) (free-settled i)
+  free-settled (suc i) = go (occupied s i) (isDue board8 s i || eqb (left s l i) 0) (settled s l i) (length-settled i) (free-settled i)
     where
-      go : (h b : Bool) (r : List ℕ) → length r ≡ 1804 → board8 .get r free ≤ board8 .get s free + count i (held s)
-          → board8 .get (cond h (cond b (giveBack board8 i (board8 .put r (mask i) 0)) (board8 .put r (mask i) (left s l i))) r) free ≤ board8 .get s free + (count i (held s) + cond h 1 0)
+      go : (h b : Bool) (r : List ℕ) → length r ≡ 1804 → board8 .get r free ≤ board8 .get s free + count i (occupied s)
+          → board8 .get (cond h (cond b (giveBack board8 i (board8 .put r (mask i) 0)) (board8 .put r (mask i) (left s l i))) r) free ≤ board8 .get s free + (count i (occupied s) + cond h 1 0)
       go true true r e k =
           let a = free-giveBack (board8 .put r (mask i) 0) (length-put r (mask i) 0 ∙ e) i in
           let b = free-mask r e i 0 in
@@ -117,26 +117,26 @@ module _ (s l : List ℕ) (sized : length s ≡ 1804) where
   unfolding settled
   settled-empty i z = rw (eq-eqb (board8 .get s (mask i)) 0 z)
 
-  module _ (room : board8 .get s free + count 256 (held s) ≤ 256) where
+  module _ (room : board8 .get s free + count 256 (occupied s) ≤ 256) where
     pub room-settled : (i : ℕ) → i ≤ 256 → board8 .get (settled s l i) free ≤ 256
     room-settled i h =
         let a = free-settled i in
-        let b = count-mono (held s) i (256 - i) in
+        let b = count-mono (occupied s) i (256 - i) in
         let c : i + (256 - i) ≡ 256 = omega arith in
-        omega (arith, ap (λ (n : ℕ). count n (held s)) c)
+        omega (arith, ap (λ (n : ℕ). count n (occupied s)) c)
 
-    room-held : (i : ℕ) → i < 256 → held s i ≡ true → board8 .get (settled s l i) free < 256
-    room-held i h e = let a = free-settled i in let b = count-below (held s) i 256 h e in omega arith
+    room-held : (i : ℕ) → i < 256 → occupied s i ≡ true → board8 .get (settled s l i) free < 256
+    room-held i h e = let a = free-settled i in let b = count-below (occupied s) i 256 h e in omega arith
 
     -- What is neither n nor in the stack nor a mask of a slot below i is as before.
     pub settled-keeps : (i : ℕ) → i ≤ 256 → (g : Field) → Outside g → ((j : ℕ) → j < i → table8 g .0 ≢ 270 + 3 * j) → board8 .get (settled s l i) g ≡ board8 .get s g
     unfolding settled
     settled-keeps zero h g o n = refl
     settled-keeps (suc i) h g o n =
-        go (held s i) refl (isDue board8 s i || eqb (left s l i) 0) (settled s l i) (length-settled i) (room-held i (omega arith))
+        go (occupied s i) refl (isDue board8 s i || eqb (left s l i) 0) (settled s l i) (length-settled i) (room-held i (omega arith))
         ∙ settled-keeps i (omega arith) g o (λ j a. n j (omega arith))
       where
-        go : (h : Bool) → held s i ≡ h → (b : Bool) (r : List ℕ) → length r ≡ 1804 → (held s i ≡ true → board8 .get r free < 256)
+        go : (h : Bool) → occupied s i ≡ h → (b : Bool) (r : List ℕ) → length r ≡ 1804 → (occupied s i ≡ true → board8 .get r free < 256)
             → board8 .get (cond h (cond b (giveBack board8 i (board8 .put r (mask i) 0)) (board8 .put r (mask i) (left s l i))) r) g ≡ board8 .get r g
         go true e true r z f =
             let k = f e in
@@ -190,7 +190,7 @@ slot-waits s i t x c z d = go (ℕ-discrete m 0)
 
 module _ (s l : List ℕ) where
   -- A slot counts on a port if it has the port left, and a port to serve, and is due.
-  missed-suc : (i p : ℕ) → p < 5 → cond (held s i && isDue board8 s i) (missed s l i p + counted (has (left s l i) p)) (missed s l i p) ≡ missed s l (suc i) p
+  missed-suc : (i p : ℕ) → p < 5 → cond (occupied s i && isDue board8 s i) (missed s l i p + counted (has (left s l i) p)) (missed s l i p) ≡ missed s l (suc i) p
   unfolding count counted
   missed-suc i p hp = go (eqb (board8 .get s (mask i)) 0) refl (isDue board8 s i)
     where
@@ -202,8 +202,8 @@ module _ (s l : List ℕ) where
       go false e true = rw (and-true (has (left s l i) p))
       go false e false = rw (and-false (has (left s l i) p)) (omega arith)
 
-  counts-suc : (i : ℕ) → cond (held s i && isDue board8 s i) (more (left s l i) (counts s l i)) (counts s l i) ≡ counts s l (suc i)
-  counts-suc i = go (held s i && isDue board8 s i) (missed-suc i)
+  counts-suc : (i : ℕ) → cond (occupied s i && isDue board8 s i) (more (left s l i) (counts s l i)) (counts s l i) ≡ counts s l (suc i)
+  counts-suc i = go (occupied s i && isDue board8 s i) (missed-suc i)
     where
       go : (b : Bool) → ((p : ℕ) → p < 5 → cond b (missed s l i p + counted (has (left s l i) p)) (missed s l i p) ≡ missed s l (suc i) p)
           → cond b (more (left s l i) (counts s l i)) (counts s l i) ≡ counts s l (suc i)
@@ -225,7 +225,7 @@ module _ (s l : List ℕ) where
 
 -- ---- one turn of the loop
 
-module _ (s l : List ℕ) (sized : length s ≡ 1804) (room : board8 .get s free + count 256 (held s) ≤ 256) (i x : ℕ) (h : i < 256) (ex : x ≡ getD l i 0)
+module _ (s l : List ℕ) (sized : length s ≡ 1804) (room : board8 .get s free + count 256 (occupied s) ≤ 256) (i x : ℕ) (h : i < 256) (ex : x ≡ getD l i 0)
     (r : List ℕ) (er : r ≡ settled s l i) (c : Counts) (ec : c ≡ counts s l i) where
   pub turn-ready : x ≤ board8 .get s (mask i) → (length r ≡ 1804) × (board8 .get r free ≤ 256) × (x ≤ board8 .get r (mask i)) × Few c
   turn-ready k = rw (er, ec, mask-kept s l sized room i h) (length-settled s l sized i, room-settled s l sized room i (omega arith), k, few s l i (omega arith))

@@ -8,7 +8,7 @@ use Rattle.rules.specs.Areas.{has}
 use Rattle.rules.specs.Board.{deadline, mask}
 use Rattle.rules.specs.Board8.{board8}
 use Rattle.settle.specs.declared.Counts.{Counts}
-use Rattle.area.specs.Room.{held}
+use Rattle.area.specs.Room.{occupied}
 use Rattle.settle.specs.Slots.{missed}
 
 -- Each is at most the number of slots.
@@ -27,7 +27,7 @@ more m c = record {
 
 -- The counts with slot i of the state, at the clock reading t; the ports in the mask x have sent it.
 abbrev pub slotCounts : List ℕ → ℕ → ℕ → ℕ → Counts → Counts
-slotCounts s t i x c = cond (held s i && eqb (board8 .get s (deadline i)) t) (more (board8 .get s (mask i) - x) c) c
+slotCounts s t i x c = cond (occupied s i && eqb (board8 .get s (deadline i)) t) (more (board8 .get s (mask i) - x) c) c
 
 -- What the pass counts for the slots below i, where the ports in the masks l have sent.
 abbrev pub counts : List ℕ → List ℕ → ℕ → Counts

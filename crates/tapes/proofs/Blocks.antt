@@ -6,7 +6,7 @@ use native.Mathlib.Nat.{add-zero, add-suc}
 use native.Mathlib.Omega.{arith}
 use lib.ListN.{length, length-append, length-drop, take, drop, replicate, drop-of-length-le}
 use lib.Seq.{sets, sets-eq, take-append-le, drop-append-le, drop-append-add}
-use Rattle.rules.specs.Areas.{Store, quiet}
+use Rattle.rules.specs.Areas.{Store, numberReply}
 use Rattle.rules.specs.Board8.{board8}
 use Rattle.rules.specs.Tick.{Outcome}
 use Rattle.rules.specs.Questions.{full, fresh, makeFresh}
@@ -17,7 +17,7 @@ use Rattle.tapes.specs.Blocks.{Place, begin, Turned, turned, looped, Who
 
 -- A fresh router and arrivals that are cleared.
 pub begun : (s t : Store) (n : ℕ) (a x : List ℕ) → length (s .state) ≡ 1804 → length (s .memory) ≡ 5120 → length a ≡ 100
-    → _≡_ {A = Outcome} (record { reply = quiet n; store = t }) (makeFresh board8 s 0)
+    → _≡_ {A = Outcome} (record { reply = numberReply n; store = t }) (makeFresh board8 s 0)
     → x ≡ sets a 0 (replicate 100 0)
     → _≡_ {A = Place} (record { tape = record { store = t; waiting = 0; records = replicate 5 0; arrivals = x }; number = 0 }) begin
 unfolding begin start makeFresh full

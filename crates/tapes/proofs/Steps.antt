@@ -9,7 +9,7 @@ use native.Mathlib.Omega.{arith}
 use lib.ListN.{length, replicate, take, drop}
 use lib.Dec.{leb, eqb}
 use borrow.Author.Tests.{eq-eqb, ne-eqb, eqb-true, eqb-false, leb-true}
-use Rattle.rules.specs.Areas.{quiet, byte, has, areasFull}
+use Rattle.rules.specs.Areas.{numberReply, byte, has, areasFull}
 use Rattle.rules.specs.Board8.{board8}
 use Rattle.rules.specs.Board.{clock}
 use Rattle.rules.specs.Tick.{Outcome}
@@ -31,7 +31,7 @@ bit-room m (suc (suc (suc (suc (suc p))))) l h e = absurd (omega arith)
 
 -- ---- a control write
 
-module _ (σ : Tape) (r s : List ℕ) (n : ℕ) (e : _≡_ {A = Outcome} (record { reply = quiet n; store = record { state = s; memory = σ .store .memory } }) (controlWrite board8 (σ .store) (byte r 1) (byte r 2))) where
+module _ (σ : Tape) (r s : List ℕ) (n : ℕ) (e : _≡_ {A = Outcome} (record { reply = numberReply n; store = record { state = s; memory = σ .store .memory } }) (controlWrite board8 (σ .store) (byte r 1) (byte r 2))) where
   abbrev pub controlled : Tape
   controlled = record { store = record { state = s; memory = σ .store .memory }; waiting = σ .waiting; records = σ .records; arrivals = σ .arrivals }
 
