@@ -22,7 +22,7 @@ use Rattle.rules.proofs.FieldBytes.{stamp-is}
 use Rattle.rules.proofs.Offsets.{above}
 use Rattle.rules.proofs.Board8Laws.{lawful8}
 use Rattle.rules.proofs.Room.{placed-used}
-use Rattle.area.specs.Room.{Room}
+use Rattle.layout.specs.Room.{Room}
 use Rattle.arrive.specs.declared.Arrival.{Arrival}
 use Rattle.arrive.specs.declared.Arrival.the-variants.{Absent, Stored, Closed, Late, Full}
 use Rattle.arrive.specs.Arrivals.{number, late, store, met, filled}

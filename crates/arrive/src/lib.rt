@@ -8,12 +8,12 @@ ghost use Rattle.rules.specs.Areas.{payload, packed, perPort};
 ghost use Rattle.rules.specs.Board.{free};
 ghost use Rattle.rules.specs.Board8.{board8};
 ghost use Rattle.rules.specs.Tick.{arrival, placed, admitted, arrived};
-ghost use Rattle.area.specs.Room.{Room};
+ghost use Rattle.layout.specs.Room.{Room};
 ghost use Rattle.arrive.specs.Arrivals.{number, late, store, met};
-use area::ConnectionId;
-use area::Field;
-use area::SlotAddress;
-use clock::ClockReading;
+use layout::ClockReading;
+use layout::ConnectionId;
+use layout::Field;
+use layout::SlotAddress;
 
 // What an arrival meets: no packet, a slot, or the refusal of question 6, 7 or 8.
 pub enum Arrival {
@@ -42,8 +42,8 @@ fn is_late(state: &[u8], packet: &[u8]) -> bool
     ensures { λ r. ⌜ r ≡ late (now (state .entry)) (now (packet .entry)) ⌝ }
 {
     let time = ClockReading(packet[1]);
-    let t = ClockReading(area::get(state, Field::Clock));
-    let d = area::get(state, Field::Delay(ConnectionId(packet[0])));
+    let t = ClockReading(layout::get(state, Field::Clock));
+    let d = layout::get(state, Field::Delay(ConnectionId(packet[0])));
     !clock::in_time(time, t, d)
 }
 
@@ -52,16 +52,16 @@ fn meets(state: &[u8], packet: &[u8], arriving: u8, port: u8) -> Arrival
     requires { ⌜ (length (now state) ≡ 1804) × (length (now packet) ≡ 20) × (port < 5) ⌝ }
     ensures { λ r. ⌜ number r ≡ arrival board8 (now (state .entry)) arriving port (now (packet .entry)) ⌝ }
 {
-    if !area::has_port(arriving, port) {
+    if !layout::has_port(arriving, port) {
         return Arrival::Absent;
     }
-    if area::get(state, Field::Routes(ConnectionId(packet[0]))) == 0 {
+    if layout::get(state, Field::Routes(ConnectionId(packet[0]))) == 0 {
         return Arrival::Closed;
     }
     if is_late(state, packet) {
         return Arrival::Late;
     }
-    if area::free_count(state) == 0 {
+    if layout::free_count(state) == 0 {
         return Arrival::Full;
     }
     Arrival::Stored
@@ -80,11 +80,11 @@ fn store_packet(
     ensures { λ _. ⌜ now (memory .exit) ≡ sets (now (memory .entry)) (20 * s .0) (packed 1 (identifier .0) (deadline .0) (payload 1 (now (packet .entry)))) ⌝ }
 {
     let mut data = [0u8; 18];
-    area::copy_in(&packet[2..], &mut data, 0);
+    layout::copy_in(&packet[2..], &mut data, 0);
     let at = 20 * (s.0 as usize);
     memory[at] = identifier.0;
     memory[at + 1] = deadline.0;
-    area::copy_in(&data, memory, at + 2);
+    layout::copy_in(&data, memory, at + 2);
 }
 
 // The accepted packet takes the top idle address.
@@ -95,16 +95,16 @@ fn place(state: &mut [u8], memory: &mut [u8], packet: &[u8])
 {
     let c = ConnectionId(packet[0]);
     let time = ClockReading(packet[1]);
-    let deadline = clock::later(time, area::get(state, Field::Delay(c)));
-    let mask = area::get(state, Field::Routes(c));
-    let identifier = ConnectionId(area::get(state, Field::Outgoing(c)));
-    let n = area::free_count(state) - 1;
-    let s = SlotAddress(area::get(state, Field::Idle(n)));
+    let deadline = clock::later(time, layout::get(state, Field::Delay(c)));
+    let mask = layout::get(state, Field::Routes(c));
+    let identifier = ConnectionId(layout::get(state, Field::Outgoing(c)));
+    let n = layout::free_count(state) - 1;
+    let s = SlotAddress(layout::get(state, Field::Idle(n)));
     store_packet(memory, s, identifier, deadline, packet);
-    area::put_free(state, n);
-    area::put(state, Field::Time(s), time.0);
-    area::put(state, Field::Deadline(s), deadline.0);
-    area::put(state, Field::Mask(s), mask);
+    layout::put_free(state, n);
+    layout::put(state, Field::Time(s), time.0);
+    layout::put(state, Field::Deadline(s), deadline.0);
+    layout::put(state, Field::Mask(s), mask);
 }
 
 // One port's arrival.

@@ -2,7 +2,7 @@
 ghost use Prim.Native.Nat.{_≤_};
 ghost use mathlib.Core.Path.{_≡_};
 ghost use mathlib.Core.Bool.{true};
-use fresh::Router;
+use layout::Router;
 use libc::STDOUT_FILENO;
 
 fn print(text: &[u8]) {
@@ -11,7 +11,7 @@ fn print(text: &[u8]) {
 
 fn print_byte(name: &[u8], area: &[u8], at: usize) {
     print(name);
-    io::print_decimal(STDOUT_FILENO, area::byte(area, at) as u64);
+    io::print_decimal(STDOUT_FILENO, layout::byte(area, at) as u64);
 }
 
 // What a tick says of port 0: the arrival's answer and the port's, the identifier, the deadline and the first data byte that left, the packets withdrawn.
@@ -79,8 +79,8 @@ fn plus(data: u8, n: u8) -> u8 {
 // A packet of a port: identifier, time and 18 bytes of data, which count up from `data`.
 fn put_packet(area: &mut [u8], port: usize, identifier: u8, time: u8, data: u8) {
     if port < 5 {
-        area::put_byte(area, 20 * port, identifier);
-        area::put_byte(area, 20 * port + 1, time);
+        layout::put_byte(area, 20 * port, identifier);
+        layout::put_byte(area, 20 * port + 1, time);
         put_data(area, 20 * port + 2, data);
     }
 }
@@ -90,15 +90,15 @@ fn put_data(area: &mut [u8], at: usize, data: u8)
 {
     let mut i: u8 = 0;
     while i < 18 {
-        area::put_byte(area, at + i as usize, plus(data, i));
+        layout::put_byte(area, at + i as usize, plus(data, i));
         i += 1;
     }
 }
 
 // What is expected of port 0: its arrival's answer and its own, and, if it sends, identifier 33, a deadline and the data 1, 2, ..
 fn expect(expected: &mut [u8], answers: &mut [u8], arrival: u8, port: u8, deadline: u8) {
-    area::put_byte(answers, 0, port);
-    area::put_byte(answers, 5, arrival);
+    layout::put_byte(answers, 0, port);
+    layout::put_byte(answers, 5, arrival);
     if port != 0 {
         put_packet(expected, 0, 33, deadline, 1);
     }
@@ -182,8 +182,8 @@ fn one_packet() {
 // The second of two is stored too, and withdrawn.
 fn expect_two(expected: &mut [u8], answers: &mut [u8]) {
     expect(expected, answers, 1, 1, 240);
-    area::put_byte(answers, 6, 1);
-    area::put_byte(answers, 11, 1);
+    layout::put_byte(answers, 6, 1);
+    layout::put_byte(answers, 11, 1);
 }
 
 // Two packets of time 240 and d = 0, on ports 0 and 1.
@@ -241,8 +241,8 @@ fn tick_ten(state: &mut [u8], memory: &mut [u8], name: &[u8], identifier: u8, da
     let mut answers = [0u8; Router::ANSWERS];
     put_packet(&mut expected, 0, identifier, 24, data);
     put_packet(&mut expected, 4, 3, 24, third);
-    area::put_byte(&mut answers, 0, 1);
-    area::put_byte(&mut answers, 4, 1);
+    layout::put_byte(&mut answers, 0, 1);
+    layout::put_byte(&mut answers, 4, 1);
     tick(state, memory, &arrivals, 0, name, &expected, &answers);
 }
 
@@ -268,7 +268,7 @@ fn equal_keys(state: &mut [u8], memory: &mut [u8]) {
 
 // How many addresses are idle.
 fn idle_count(state: &[u8]) -> u64 {
-    (area::byte(state, 10) as u64) * 256 + area::byte(state, 11) as u64
+    (layout::byte(state, 10) as u64) * 256 + layout::byte(state, 11) as u64
 }
 
 // The same packet on all five ports.
@@ -276,7 +276,7 @@ fn put_five(expected: &mut [u8], answers: &mut [u8]) {
     let mut port = 0;
     while port < 5 {
         put_packet(expected, port, 33, 24, 1);
-        area::put_byte(answers, port, 1);
+        layout::put_byte(answers, port, 1);
         port += 1;
     }
 }
@@ -288,7 +288,7 @@ fn tick_all(state: &mut [u8], memory: &mut [u8]) {
     let mut answers = [0u8; Router::ANSWERS];
     put_packet(&mut arrivals, 0, 5, 240, 1);
     put_five(&mut expected, &mut answers);
-    area::put_byte(&mut answers, 5, 1);
+    layout::put_byte(&mut answers, 5, 1);
     tick(
         state,
         memory,
@@ -308,7 +308,7 @@ fn five_ports(state: &mut [u8], memory: &mut [u8]) {
     report_number(
         b"mask 31, time 240, next address",
         0,
-        area::byte(state, 267) as u64,
+        layout::byte(state, 267) as u64,
     );
 }
 

@@ -10,9 +10,9 @@ ghost use Rattle.rules.specs.Tick.{grant};
 ghost use Rattle.choose.specs.Ranks as Ranks;
 ghost use Rattle.choose.specs.Grants.{grantOf};
 ghost use Rattle.choose.specs.Empty.{EmptyFrom};
-use area::Field;
-use area::SlotAddress;
-use clock::ClockReading;
+use layout::ClockReading;
+use layout::Field;
+use layout::SlotAddress;
 
 // Where the ranks of early slots begin, and the rank of no slot.
 const EARLY: u32 = 65536;
@@ -31,9 +31,9 @@ pub enum Grant {
 fn rank(state: &[u8], t: ClockReading, s: SlotAddress) -> u32
     ensures { λ r. ⌜ r ≡ Ranks.slotRank (now (state .entry)) (t .0) (s .0) ⌝ }
 {
-    let time = ClockReading(area::get(state, Field::Time(s)));
+    let time = ClockReading(layout::get(state, Field::Time(s)));
     if clock::on_time(time, t) {
-        let deadline = ClockReading(area::get(state, Field::Deadline(s)));
+        let deadline = ClockReading(layout::get(state, Field::Deadline(s)));
         return (clock::since(deadline, t) as u32) * 256 + s.0 as u32;
     }
     EARLY + (clock::since(time, t) as u32) * 256 + s.0 as u32
@@ -63,7 +63,7 @@ fn look(state: &[u8], t: ClockReading, s: SlotAddress, bests: &mut [u32; 5])
     requires { ⌜ (t .0 ≡ board8 .get (now state) clock) × Ranks.Bests (now state) (s .0) (now bests) ⌝ }
     ensures { λ _. ⌜ Ranks.Bests (now (state .entry)) (suc (s .0)) (now (bests .exit)) ⌝ }
 {
-    let mask = area::get(state, Field::Mask(s)) % 32;
+    let mask = layout::get(state, Field::Mask(s)) % 32;
     if mask == 0 {
         return;
     }
@@ -76,7 +76,7 @@ pub fn end(state: &[u8]) -> usize
 {
     let mut e: usize = 256;
     while 0 < e {
-        if area::get(state, Field::Mask(SlotAddress((e - 1) as u8))) != 0 {
+        if layout::get(state, Field::Mask(SlotAddress((e - 1) as u8))) != 0 {
             return e;
         }
         e -= 1;
@@ -89,7 +89,7 @@ pub fn scan(state: &[u8], end: usize) -> [u32; 5]
     requires { ⌜ EmptyFrom (now state) end ⌝ }
     ensures { λ r. ⌜ Ranks.Bests (now (state .entry)) 256 r ⌝ }
 {
-    let t = ClockReading(area::get(state, Field::Clock));
+    let t = ClockReading(layout::get(state, Field::Clock));
     let mut bests = [NONE; 5];
     let mut i: usize = 0;
     while i < end {
@@ -108,13 +108,13 @@ pub fn choose(state: &[u8], waiting: u8, port: u8, best: u32) -> Grant
     if best < EARLY {
         return Grant::OnTime(slot);
     }
-    if area::has_port(waiting, port) {
+    if layout::has_port(waiting, port) {
         return Grant::BestEffort;
     }
     if NONE <= best {
         return Grant::Nobody;
     }
-    if best / 256 - 256 <= area::get(state, Field::Horizon(port)) as u32 {
+    if best / 256 - 256 <= layout::get(state, Field::Horizon(port)) as u32 {
         return Grant::Early(slot);
     }
     Grant::Nobody

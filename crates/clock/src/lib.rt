@@ -4,8 +4,7 @@ ghost use lib.IntN.{pos, negℤ};
 ghost use lib.Signed.{leZ};
 ghost use Rattle.rules.specs.Clock.{plus, minus, offset};
 ghost use Rattle.rules.specs.Areas.{bits};
-
-pub struct ClockReading(pub u8);
+use layout::ClockReading;
 
 // The time d ticks after t.
 pub fn later(t: ClockReading, d: u8) -> ClockReading

@@ -6,8 +6,8 @@ ghost use Rattle.rules.specs.Board.{latch};
 ghost use Rattle.rules.specs.Board8.{board8};
 ghost use Rattle.rules.specs.Control.{commitEntry, commitHorizon, written};
 ghost use Rattle.control.specs.Latches.{latchOf, stored, kept};
-use area::ConnectionId;
-use area::Field;
+use layout::ConnectionId;
+use layout::Field;
 
 // The control latch: the bytes last written to registers 0, 1, 2 and 4, which wait for a commit.
 pub struct Latch {
@@ -22,10 +22,10 @@ impl Latch {
     pub fn read(state: &[u8]) -> Latch
         ensures { λ r. ⌜ r ≡ latchOf (now (state .entry)) ⌝ }
     {
-        let outgoing = area::get(state, Field::Latch(0));
-        let delay = area::get(state, Field::Latch(1));
-        let routes = area::get(state, Field::Latch(2));
-        let horizons = area::get(state, Field::Latch(3));
+        let outgoing = layout::get(state, Field::Latch(0));
+        let delay = layout::get(state, Field::Latch(1));
+        let routes = layout::get(state, Field::Latch(2));
+        let horizons = layout::get(state, Field::Latch(3));
         Latch {
             outgoing,
             delay,
@@ -70,10 +70,10 @@ fn keep(state: &mut [u8], latch: Latch, register: u8)
     ensures { λ _. ⌜ now (state .exit) ≡ kept (now (state .entry)) latch register ⌝ }
 {
     match register {
-        0 => area::put(state, Field::Latch(0), latch.outgoing),
-        1 => area::put(state, Field::Latch(1), latch.delay),
-        2 => area::put(state, Field::Latch(2), latch.routes),
-        _ => area::put(state, Field::Latch(3), latch.horizons),
+        0 => layout::put(state, Field::Latch(0), latch.outgoing),
+        1 => layout::put(state, Field::Latch(1), latch.delay),
+        2 => layout::put(state, Field::Latch(2), latch.routes),
+        _ => layout::put(state, Field::Latch(3), latch.horizons),
     }
 }
 
@@ -82,9 +82,9 @@ fn commit_entry(state: &mut [u8], connection: ConnectionId)
     ensures { λ _. ⌜ now (state .exit) ≡ commitEntry board8 (connection .0) (now (state .entry)) ⌝ }
 {
     let latch = Latch::read(state);
-    area::put(state, Field::Outgoing(connection), latch.outgoing);
-    area::put(state, Field::Delay(connection), latch.delay);
-    area::put(state, Field::Routes(connection), latch.routes);
+    layout::put(state, Field::Outgoing(connection), latch.outgoing);
+    layout::put(state, Field::Delay(connection), latch.delay);
+    layout::put(state, Field::Routes(connection), latch.routes);
 }
 
 // Register 5: a horizon for each port in the latch's mask.
@@ -95,8 +95,8 @@ fn commit_horizon(state: &mut [u8], horizon: u8)
     let mask = latch.horizons;
     let mut port: u8 = 0;
     while port < 5 {
-        if area::has_port(mask, port) {
-            area::put(state, Field::Horizon(port), horizon);
+        if layout::has_port(mask, port) {
+            layout::put(state, Field::Horizon(port), horizon);
         }
         port += 1;
     }

@@ -3,7 +3,7 @@ ghost use mathlib.Core.Path.{_≡_};
 ghost use lib.ListN.{take, drop};
 ghost use Rattle.rules.specs.Areas.{display};
 ghost use Rattle.display.specs.Start.{displayStart};
-use fresh::Router;
+use layout::Router;
 
 // The part itself, of the area lent.
 pub fn part(outgoing: &[u8], port: u8) -> &[u8]

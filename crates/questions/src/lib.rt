@@ -3,10 +3,10 @@ ghost use mathlib.Core.Path.{_≡_};
 ghost use Rattle.rules.specs.Areas.{areasFull};
 ghost use Rattle.rules.specs.Board8.{board8};
 ghost use Rattle.rules.specs.Questions.{full, controlRefusal, tickRefusal};
-ghost use Rattle.area.specs.Room.{Lent};
-ghost use Rattle.fresh.specs.Numbers.{numberOf};
-use fresh::Refusal;
-use fresh::Router;
+ghost use Rattle.layout.specs.Room.{Lent};
+ghost use Rattle.layout.specs.Numbers.{numberOf};
+use layout::Refusal;
+use layout::Router;
 
 // Question 1 of state and memory.
 fn store_full(state: &[u8], memory: &[u8]) -> bool

@@ -74,7 +74,7 @@ fn arrival_questions(waiting: u8, bytes: &[u8]) -> Answer
     if 4 < port {
         return Answer::Unused;
     }
-    if area::has_port(waiting, port) {
+    if layout::has_port(waiting, port) {
         return Answer::Occupied;
     }
     Answer::Accepted

@@ -17,7 +17,7 @@ use Rattle.rules.specs.Tick.{grant, sent, served, isDue, withdrawn, withdrawals
 use Rattle.rules.proofs.IndexLaws.{count-same}
 use Rattle.rules.proofs.FieldBytes.{get-other, length-put, put-again}
 use Rattle.serve.specs.Sends.{sends}
-use Rattle.area.specs.Room.{occupied}
+use Rattle.layout.specs.Room.{occupied}
 use Rattle.settle.specs.Slots.{left, settleSlot, settled, missed}
 use Rattle.settle.proofs.Stores.{mask-same, mask-other, mask-mask, put-comm}
 use Rattle.serve.proofs.Grants.{Winner, winner, length-served}

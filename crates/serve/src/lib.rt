@@ -7,9 +7,9 @@ ghost use lib.ListN.{length};
 ghost use Rattle.rules.specs.Areas.{perPort, grantCode};
 ghost use Rattle.rules.specs.Board8.{board8};
 ghost use Rattle.rules.specs.Tick.{grant, grantBytes, served, withdrawals, withdrawn, returned, advanced};
-ghost use Rattle.area.specs.Room.{Room};
-use area::Field;
-use clock::ClockReading;
+ghost use Rattle.layout.specs.Room.{Room};
+use layout::ClockReading;
+use layout::Field;
 
 // What a tick answers of steps 2 to 4, port by port: who had it, and how many packets were withdrawn.
 pub struct Served {
@@ -21,9 +21,9 @@ pub struct Served {
 fn advance(state: &mut [u8])
     ensures { λ _. ⌜ now (state .exit) ≡ advanced board8 (now (state .entry)) ⌝ }
 {
-    let t = ClockReading(area::get(state, Field::Clock));
+    let t = ClockReading(layout::get(state, Field::Clock));
     let u = clock::later(t, 1);
-    area::put(state, Field::Clock, u.0);
+    layout::put(state, Field::Clock, u.0);
 }
 
 // Steps 2 to 6.

@@ -10,8 +10,8 @@ ghost use Rattle.rules.specs.Tick.{grant, grantBytes};
 ghost use Rattle.choose.specs.Ranks.{best, Bests};
 ghost use Rattle.choose.specs.Grants.{grantOf};
 ghost use Rattle.serve.specs.Sends.{marked, sends};
-use area::SlotAddress;
 use choose::Grant;
+use layout::SlotAddress;
 
 // A port's answer.
 fn code(g: Grant) -> u8
@@ -33,7 +33,7 @@ fn packet(memory: &[u8], s: SlotAddress) -> [u8; 20]
     let a = 20 * (s.0 as usize);
     let e = a + 20;
     let mut k = [0u8; 20];
-    area::copy_in(&memory[a..e], &mut k, 0);
+    layout::copy_in(&memory[a..e], &mut k, 0);
     k
 }
 
@@ -91,7 +91,7 @@ fn serve_port(
 {
     let g = choose::choose(state, waiting, port, least);
     let k = bytes(memory, g);
-    area::copy_in(&k, outgoing, 20 * (port as usize));
+    layout::copy_in(&k, outgoing, 20 * (port as usize));
     mark(sent, port, g);
     code(g)
 }

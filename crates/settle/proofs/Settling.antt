@@ -18,7 +18,7 @@ use Rattle.rules.proofs.Masks.{has-zero}
 use Rattle.rules.proofs.FieldBytes.{get-other, put-again, length-put, free-put-free, free-put-one}
 use Rattle.settle.specs.declared.Counts.{Counts}
 use Rattle.settle.specs.Counts.{Few, more, slotCounts, counts}
-use Rattle.area.specs.Room.{occupied}
+use Rattle.layout.specs.Room.{occupied}
 use Rattle.settle.specs.Slots.{left, slotAfter, settled, missed}
 use Rattle.settle.proofs.Stores.{put-comm, put-comm-free, get-put-free}
 

@@ -8,7 +8,7 @@ use Rattle.rules.specs.Areas.{has}
 use Rattle.rules.specs.Board.{deadline, mask}
 use Rattle.rules.specs.Board8.{board8}
 use Rattle.settle.specs.declared.Counts.{Counts}
-use Rattle.area.specs.Room.{occupied}
+use Rattle.layout.specs.Room.{occupied}
 use Rattle.settle.specs.Slots.{missed}
 
 -- Each is at most the number of slots.

@@ -9,7 +9,7 @@ use Rattle.rules.specs.Areas.{has}
 use Rattle.rules.specs.Board.{deadline, mask}
 use Rattle.rules.specs.Board8.{board8}
 use Rattle.rules.specs.Tick.{isDue, giveBack}
-use Rattle.area.specs.Room.{occupied}
+use Rattle.layout.specs.Room.{occupied}
 
 -- The ports of slot i that are left once those in l have sent it.
 abbrev pub left : List ℕ → List ℕ → ℕ → ℕ

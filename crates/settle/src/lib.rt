@@ -10,11 +10,11 @@ ghost use Rattle.rules.specs.Board8.{board8};
 ghost use Rattle.rules.specs.Tick.{giveBack};
 ghost use Rattle.settle.specs.Counts.{Few, more, slotCounts};
 ghost use Rattle.choose.specs.Empty.{EmptyFrom};
-ghost use Rattle.area.specs.Room.{Room};
+ghost use Rattle.layout.specs.Room.{Room};
 ghost use Rattle.settle.specs.Slots.{slotAfter, settled, missed};
-use area::Field;
-use area::SlotAddress;
-use clock::ClockReading;
+use layout::ClockReading;
+use layout::Field;
+use layout::SlotAddress;
 
 // How many packets are withdrawn on each port.
 pub struct Counts {
@@ -30,7 +30,11 @@ fn count(mask: u8, port: u8, n: u16) -> u16
     requires { ⌜ (port < 5) × (n ≤ 256) ⌝ }
     ensures { λ r. ⌜ r ≡ n + counted (has mask port) ⌝ }
 {
-    if area::has_port(mask, port) { n + 1 } else { n }
+    if layout::has_port(mask, port) {
+        n + 1
+    } else {
+        n
+    }
 }
 
 // The counts with the ports left in a mask.
@@ -52,10 +56,10 @@ fn give_back(state: &mut [u8], s: SlotAddress)
     requires { ⌜ (length (now state) ≡ 1804) × (board8 .get (now state) free ≤ 256) ⌝ }
     ensures { λ _. ⌜ now (state .exit) ≡ giveBack board8 (s .0) (board8 .put (now (state .entry)) (mask (s .0)) 0) ⌝ }
 {
-    area::put(state, Field::Mask(s), 0);
-    let n = area::free_count(state);
-    area::put(state, Field::Idle(n), s.0);
-    area::put_free(state, n + 1);
+    layout::put(state, Field::Mask(s), 0);
+    let n = layout::free_count(state);
+    layout::put(state, Field::Idle(n), s.0);
+    layout::put_free(state, n + 1);
 }
 
 // Steps 3 to 5 for one slot, which the ports in `sent` send.
@@ -65,16 +69,16 @@ fn settle_slot(state: &mut [u8], t: ClockReading, s: SlotAddress, sent: u8, c: C
     ensures after { λ _. ⌜ now (state .exit) ≡ slotAfter (now (state .entry)) (t .0) (s .0) sent ⌝ }
 {
     if sent == 0 {
-        if area::get(state, Field::Deadline(s)) != t.0 {
+        if layout::get(state, Field::Deadline(s)) != t.0 {
             return c;
         }
     }
-    let mask = area::get(state, Field::Mask(s));
+    let mask = layout::get(state, Field::Mask(s));
     if mask == 0 {
         return c;
     }
     let left = mask - sent;
-    if area::get(state, Field::Deadline(s)) == t.0 {
+    if layout::get(state, Field::Deadline(s)) == t.0 {
         give_back(state, s);
         return withdraw(left, c);
     }
@@ -82,7 +86,7 @@ fn settle_slot(state: &mut [u8], t: ClockReading, s: SlotAddress, sent: u8, c: C
         give_back(state, s);
         return c;
     }
-    area::put(state, Field::Mask(s), left);
+    layout::put(state, Field::Mask(s), left);
     c
 }
 
@@ -94,7 +98,7 @@ pub fn settle(state: &mut [u8], sent: &[u8; 256], end: usize) -> [u16; 5]
     ensures counts { λ r. ⌜ r ≡ perPort (λ p. missed (now (state .entry)) (now (sent .entry)) 256 p ∷ []) ⌝ }
     ensures after { λ _. ⌜ now (state .exit) ≡ settled (now (state .entry)) (now (sent .entry)) 256 ⌝ }
 {
-    let t = ClockReading(area::get(state, Field::Clock));
+    let t = ClockReading(layout::get(state, Field::Clock));
     let mut c = Counts {
         p0: 0,
         p1: 0,

@@ -23,7 +23,7 @@ use Rattle.rules.proofs.IndexLaws.{all-at}
 use Rattle.rules.proofs.Offsets.{offset-at-least, offset-at-most-126}
 use Rattle.rules.proofs.Board8Laws.{lawful8}
 use Rattle.rules.proofs.Room.{sound-used}
-use Rattle.area.specs.Room.{Room}
+use Rattle.layout.specs.Room.{Room}
 use Rattle.sound.specs.Entries.{entries}
 
 -- ---- a loop that leaves at the first index that fails

@@ -11,12 +11,12 @@ ghost use Rattle.rules.specs.Areas.{bits, elem, distinct};
 ghost use Rattle.rules.specs.Board.{idle};
 ghost use Rattle.rules.specs.Board8.{board8};
 ghost use Rattle.rules.specs.Questions.{connectionSound, horizonSound, settingsSound, stack, listed, stackSound, slotSound, slotsSound, sound};
-ghost use Rattle.area.specs.Room.{Room};
+ghost use Rattle.layout.specs.Room.{Room};
 ghost use Rattle.sound.specs.Entries.{entries};
-use area::ConnectionId;
-use area::Field;
-use area::SlotAddress;
-use clock::ClockReading;
+use layout::ClockReading;
+use layout::ConnectionId;
+use layout::Field;
+use layout::SlotAddress;
 
 // Both tests hold, without a branch.
 fn both(a: bool, b: bool) -> bool
@@ -37,10 +37,10 @@ fn connection_sound(state: &[u8], c: ConnectionId) -> bool
     requires { ⌜ length (now state) ≡ 1804 ⌝ }
     ensures { λ r. ⌜ r ≡ connectionSound board8 (now (state .entry)) (c .0) ⌝ }
 {
-    if 128 <= area::read(state, Field::Delay(c)) {
+    if 128 <= layout::read(state, Field::Delay(c)) {
         return false;
     }
-    area::read(state, Field::Routes(c)) <= 31
+    layout::read(state, Field::Routes(c)) <= 31
 }
 
 fn connections_sound(state: &[u8]) -> bool
@@ -63,7 +63,7 @@ fn horizons_sound(state: &[u8]) -> bool
 {
     let mut p: u8 = 0;
     while p < 5 {
-        if 128 <= area::read(state, Field::Horizon(p)) {
+        if 128 <= layout::read(state, Field::Horizon(p)) {
             return false;
         }
         p += 1;
@@ -82,9 +82,9 @@ fn settings_sound(state: &[u8]) -> bool
     if !horizons_sound(state) {
         return false;
     }
-    let delay = area::read(state, Field::Latch(1)) < 128;
-    let routes = area::read(state, Field::Latch(2)) <= 31;
-    let horizons = area::read(state, Field::Latch(3)) <= 31;
+    let delay = layout::read(state, Field::Latch(1)) < 128;
+    let routes = layout::read(state, Field::Latch(2)) <= 31;
+    let horizons = layout::read(state, Field::Latch(3)) <= 31;
     both(delay, both(routes, horizons))
 }
 
@@ -96,7 +96,7 @@ fn mark(state: &[u8], n: u16, seen: &mut [bool; 256]) -> bool
     let mut distinct = true;
     let mut i: u16 = 0;
     while i < n {
-        let a = area::read(state, Field::Idle(i)) as usize;
+        let a = layout::read(state, Field::Idle(i)) as usize;
         distinct = both(!seen[a], distinct);
         seen[a] = true;
         i += 1;
@@ -112,7 +112,7 @@ fn all_listed(state: &[u8], seen: &[bool; 256]) -> bool
     let mut ok = true;
     let mut i: usize = 0;
     while i < 256 {
-        let empty = area::read(state, Field::Mask(SlotAddress(i as u8))) == 0;
+        let empty = layout::read(state, Field::Mask(SlotAddress(i as u8))) == 0;
         ok = both(ok, same(seen[i], empty));
         i += 1;
     }
@@ -125,7 +125,7 @@ fn stack_sound(state: &[u8]) -> bool
     ensures sound { λ r. ⌜ r ≡ stackSound board8 (now (state .entry)) ⌝ }
     ensures room { λ r. ⌜ (r ≡ true → Room (now (state .entry))) ⌝ }
 {
-    let n = area::free_count(state);
+    let n = layout::free_count(state);
     if 256 < n {
         return false;
     }
@@ -149,20 +149,20 @@ fn slot_sound(state: &[u8], memory: &[u8], s: SlotAddress) -> bool
     requires { ⌜ (length (now state) ≡ 1804) × (length (now memory) ≡ 5120) ⌝ }
     ensures { λ r. ⌜ r ≡ slotSound board8 (record { state = now (state .entry); memory = now (memory .entry) }) (s .0) ⌝ }
 {
-    let mask = area::read(state, Field::Mask(s));
+    let mask = layout::read(state, Field::Mask(s));
     if mask == 0 {
         return true;
     }
     if 31 < mask {
         return false;
     }
-    let time = ClockReading(area::read(state, Field::Time(s)));
-    let deadline = ClockReading(area::read(state, Field::Deadline(s)));
+    let time = ClockReading(layout::read(state, Field::Time(s)));
+    let deadline = ClockReading(layout::read(state, Field::Deadline(s)));
     let d = clock::since(deadline, time);
     if 128 <= d {
         return false;
     }
-    let t = ClockReading(area::read(state, Field::Clock));
+    let t = ClockReading(layout::read(state, Field::Clock));
     if !offset_sound(time, t, d) {
         return false;
     }

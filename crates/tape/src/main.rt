@@ -7,7 +7,7 @@ ghost use lib.Dec.{eqb};
 ghost use Rattle.io.specs.Counts.{Counts};
 ghost use Rattle.tapes.specs.Blocks as Blocks;
 ghost use Rattle.tapes.specs.Values.{placeOf};
-use fresh::Router;
+use layout::Router;
 use libc::STDERR_FILENO;
 use libc::STDIN_FILENO;
 use libc::STDOUT_FILENO;

@@ -6,7 +6,7 @@ ghost use Rattle.text.specs.Put.{Put};
 ghost use Rattle.tapes.specs.Values.{eventOf};
 ghost use Rattle.tapes.specs.Tape.{refusedArrival, tickedLines, eventLines};
 use crate::stepping::Event;
-use fresh::Router;
+use layout::Router;
 
 // The line of a port's arrival, if a tick's answers refuse it.
 fn put_refused_arrival(
@@ -19,7 +19,7 @@ fn put_refused_arrival(
     requires { ⌜ (at + 26 ≤ length (now lines)) × (port < 5) ⌝ }
     ensures { λ r. ⌜ Put (refusedArrival records (now (answers .entry)) port) at (now (lines .entry)) (now (lines .exit)) r ⌝ }
 {
-    let met = area::byte(answers, 5 + port);
+    let met = layout::byte(answers, 5 + port);
     if met < 6 {
         return at;
     }

@@ -10,8 +10,8 @@ ghost use Rattle.tapes.specs.Tape as Tapes;
 ghost use Rattle.tapes.specs.Blocks as Blocks;
 ghost use Rattle.tapes.specs.Values.{tapeOf, eventOf, takenOf, placeOf};
 use crate::printing;
-use area::Field;
-use fresh::Router;
+use layout::Field;
+use layout::Router;
 
 // The ports with an arrival for the coming tick, and the number of the record that brought each.
 pub struct Waiting {
@@ -61,7 +61,7 @@ fn take_arrival(arrivals: &mut [u8], waiting: Waiting, number: u64, bytes: &[u8]
     let port = bytes[1] as usize;
     let mut records = waiting.records;
     records[port] = number;
-    area::copy_in(&bytes[4..], arrivals, Router::PACKET * port);
+    layout::copy_in(&bytes[4..], arrivals, Router::PACKET * port);
     let mask = with_port(waiting.mask, bytes[1]);
     Waiting { mask, records }
 }
@@ -80,7 +80,7 @@ fn take_tick(
     ensures { λ r. ⌜ takenOf (now (state .exit)) (now (memory .exit)) (now (arrivals .entry)) (now (outgoing .exit)) (now (answers .exit)) r
         ≡ Tapes.takeTick (tapeOf (now (state .entry)) (now (memory .entry)) (now (arrivals .entry)) waiting) (now (bytes .entry)) ⌝ }
 {
-    let clock = area::get(state, Field::Clock);
+    let clock = layout::get(state, Field::Clock);
     let number = router::router_tick(
         state,
         memory,
@@ -195,7 +195,7 @@ pub fn begin(state: &mut [u8], memory: &mut [u8], arrivals: &mut [u8]) -> Place
 {
     let none = [0u8; Router::ARRIVALS];
     router::router_fresh(state, memory, 0);
-    area::copy_in(&none, arrivals, 0);
+    layout::copy_in(&none, arrivals, 0);
     let waiting = Waiting {
         mask: 0,
         records: [0; 5],

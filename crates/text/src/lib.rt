@@ -8,7 +8,7 @@ ghost use lib.ListN.{length};
 ghost use Rattle.text.specs.Lines.{decimal, recordNumber, hex, field, refusedLine, withdrawn, portField, withdrawnSum, tickText, tickLine};
 ghost use Rattle.rules.specs.Areas.{perPort};
 ghost use Rattle.text.specs.Put.{Put};
-use fresh::Router;
+use layout::Router;
 
 // A character.
 pub fn put_char(lines: &mut [u8], at: usize, b: u8) -> usize
@@ -121,8 +121,8 @@ fn put_port(lines: &mut [u8], at: usize, port: usize, outgoing: &[u8], answers: 
     requires { ⌜ (at + 4 ≤ length (now lines)) × (port < 5) ⌝ }
     ensures { λ r. ⌜ Put (portField (now (outgoing .entry)) (now (answers .entry)) port) at (now (lines .entry)) (now (lines .exit)) r ⌝ }
 {
-    let code = area::byte(answers, port);
-    let identifier = area::byte(outgoing, 20 * port);
+    let code = layout::byte(answers, port);
+    let identifier = layout::byte(outgoing, 20 * port);
     let place = put_char(lines, at, b' ');
     put_field(lines, place, code, identifier)
 }
@@ -145,7 +145,8 @@ pub fn withdrawn_on(answers: &[u8], port: usize) -> u16
     requires { ⌜ port < 5 ⌝ }
     ensures { λ r. ⌜ r ≡ withdrawn (now (answers .entry)) port ⌝ }
 {
-    (area::byte(answers, 10 + 2 * port) as u16) * 256 + area::byte(answers, 11 + 2 * port) as u16
+    (layout::byte(answers, 10 + 2 * port) as u16) * 256
+        + layout::byte(answers, 11 + 2 * port) as u16
 }
 
 fn wide(x: u16) -> u64

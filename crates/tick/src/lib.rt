@@ -4,7 +4,7 @@ ghost use Prim.Native.Nat.{_/_, _%_};
 ghost use lib.ListN.{length};
 ghost use Rattle.rules.specs.Board8.{board8};
 ghost use Rattle.rules.specs.Tick.{Outcome, ticked};
-ghost use Rattle.area.specs.Room.{Lent};
+ghost use Rattle.layout.specs.Room.{Lent};
 ghost use Rattle.tick.specs.Answers.{laid};
 
 // The two bytes of a count.
@@ -37,9 +37,9 @@ fn put_answers(answers: &mut [u8], codes: [u8; 5], met: [u8; 5], counts: [u16; 5
         high(counts[4]),
         low(counts[4]),
     ];
-    area::copy_in(&codes, answers, 0);
-    area::copy_in(&met, answers, 5);
-    area::copy_in(&withdrawn, answers, 10);
+    layout::copy_in(&codes, answers, 0);
+    layout::copy_in(&met, answers, 5);
+    layout::copy_in(&withdrawn, answers, 10);
 }
 
 // The six steps, of a sound state.

@@ -6,7 +6,7 @@ use native.Mathlib.Omega.{arith}
 use lib.ListN.{length}
 use Rattle.rules.specs.Board8.{board8}
 use Rattle.rules.specs.Tick.{arrived}
-use Rattle.area.specs.Room.{Room}
+use Rattle.layout.specs.Room.{Room}
 use Rattle.arrive.specs.Arrivals.{store, met, filled}
 use Rattle.arrive.proofs.Laws.{part-packet, arrived-more, filled-more, filled-five}
 use borrow.Author.Needs.{needs}

@@ -4,7 +4,7 @@ use borrow.Author.Needs.{needs}
 use mathlib.Core.Path.{ap, _∙_}
 use native.Mathlib.Omega.{arith}
 use lib.ListN.{length}
-use Rattle.fresh.proofs.Laws.{length-fresh, refused-state, refused-memory, accepted}
+use Rattle.fresh.proofs.Making.{length-fresh, refused-state, refused-memory, accepted}
 use Rattle.fresh.proofs.make_fresh.Statement.{statement}
 use Rattle.fresh.proofs.make_fresh.Tie as tie
 

@@ -6,7 +6,8 @@ use mathlib.Core.Path.{_≡_, refl, _∙_}
 use native.Mathlib.Numerals.{add-one}
 use native.Mathlib.Omega.{arith}
 use lib.ListN.{length, getD, getD-replicate}
-use Rattle.fresh.specs.Slots.{empty, emptied}
+use Rattle.fresh.specs.Slots.{emptied}
+use Rattle.layout.specs.Slots.{empty}
 use borrow.Author.Needs.{needs}
 use Rattle.fresh.proofs.put_slots.Statement.{statement}
 use Rattle.fresh.proofs.put_slots.Tie as tie

@@ -1,0 +1,2 @@
+mod OneByte
+pub mod FreshState

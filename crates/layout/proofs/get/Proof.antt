@@ -1,0 +1,18 @@
+use Rattle.layout.proofs.OneByte.{one-byte}
+use Rattle.rules.proofs.FieldBytes.{get-one}
+use borrow.Author.Needs.{needs}
+use Rattle.layout.proofs.get.Statement.{statement}
+use Rattle.layout.proofs.get.Tie as tie
+
+place-requires : tie.Need-place-requires
+place-requires c κs = search needs
+
+byte-requires : tie.Need-byte-requires
+byte-requires c κs = search needs
+
+returns : tie.Need-returns
+returns c = let a = c .before .before .before .args in
+    rw (get-one (a .state .now) _ (one-byte (a .f)), ← c .before .place .ensures) (c .byte .ensures)
+
+pub get-spec : {M : Type 1} → statement M
+get-spec = tie.close (tie.spec place-requires byte-requires returns)

@@ -1,0 +1,22 @@
+use Rattle.layout.proofs.OneByte.{one-byte}
+use Rattle.rules.proofs.FieldBytes.{put-one}
+use borrow.Author.Needs.{needs}
+use Rattle.layout.proofs.put.Statement.{statement}
+use Rattle.layout.proofs.put.Tie as tie
+
+place-requires : tie.Need-place-requires
+place-requires c κs = search needs
+
+put-byte-requires : tie.Need-put-byte-requires
+put-byte-requires c κs = search needs
+
+same-length : tie.Need-same-length
+same-length c = search needs
+
+returns : tie.Need-returns
+returns c = let p = c .before .before .before in
+    let a = p .before .before .before .args in
+    rw (put-one (a .state .now) _ (one-byte (a .f)), ← p .place .ensures) (c .before .before .put-byte .ensures)
+
+pub put-spec : {M : Type 1} → statement M
+put-spec = tie.close (tie.spec place-requires put-byte-requires same-length returns)

@@ -1,0 +1,192 @@
+// The layout of what the router is lent: its sizes, the numbers of refusals, the fields of the state, a port's bit, and a copy.
+ghost use mathlib.Core.Path.{_≡_};
+ghost use Prim.Native.Nat.{_+_, _≤_, _<_};
+ghost use lib.ListN.{length, getD, set, replicate};
+ghost use lib.Seq.{sets};
+ghost use Rattle.rules.specs.Areas.{has};
+ghost use Rattle.rules.specs.Board.{free};
+ghost use Rattle.rules.specs.Board8.{board8, table8};
+ghost use Rattle.layout.specs.Fields.{fieldOf};
+ghost use Rattle.layout.specs.Numbers.{numberOf};
+ghost use Rattle.layout.specs.Slots.{empty};
+
+// One byte each, and none may serve as another.
+pub struct SlotAddress(pub u8);
+
+pub struct ConnectionId(pub u8);
+
+pub struct ClockReading(pub u8);
+
+// A slot's three bytes: logical arrival time, deadline, mask of ports still to serve.
+pub struct Slot(pub [u8; 3]);
+
+// A router before it is copied to the lent area: the bytes of its state, and its slots.
+pub struct Router {
+    pub bytes: [u8; Router::STATE],
+    pub slots: [Slot; Router::SLOTS],
+}
+
+impl Router {
+    // Counts, and bytes of a packet and of each area.
+    pub const PORTS: usize = 5;
+
+    pub const SLOTS: usize = 256;
+
+    pub const CONNECTIONS: usize = 256;
+
+    pub const PACKET: usize = 20;
+
+    pub const STATE: usize = 1804;
+
+    pub const MEMORY: usize = 5120;
+
+    pub const ARRIVALS: usize = 100;
+
+    pub const OUTGOING: usize = 100;
+
+    pub const ANSWERS: usize = 20;
+
+    pub const EMPTY: Slot = Slot([0u8; 3]);
+
+    pub fn fresh(clock: ClockReading) -> Router
+        ensures { λ r. ⌜ (r .bytes ≡ board8 .freshState (clock .0)) × (r .slots ≡ replicate 256 empty) ⌝ }
+    {
+        let mut bytes = [0u8; Router::STATE];
+        bytes[0] = clock.0;
+        bytes[10] = 1;
+        let mut i = 0;
+        while i < Router::SLOTS {
+            bytes[12 + i] = (255 - i) as u8;
+            i += 1;
+        }
+        let slots = [Router::EMPTY; Router::SLOTS];
+        Router { bytes, slots }
+    }
+}
+
+// What a call answers: accepted, or the question that stopped it.
+pub enum Refusal {
+    Accepted,
+    Lengths,
+    Unsound,
+    Masks,
+    Register,
+    Value,
+}
+
+impl Refusal {
+    pub fn number(self) -> u8
+        ensures { λ r. ⌜ r ≡ numberOf self ⌝ }
+    {
+        match self {
+            Refusal::Accepted => 0,
+            Refusal::Lengths => 1,
+            Refusal::Unsound => 2,
+            Refusal::Masks => 3,
+            Refusal::Register => 4,
+            Refusal::Value => 5,
+        }
+    }
+}
+
+// The fields of one byte.
+pub enum Field {
+    Clock,
+    Horizon(u8),
+    Latch(u8),
+    Idle(u16),
+    Time(SlotAddress),
+    Deadline(SlotAddress),
+    Mask(SlotAddress),
+    Outgoing(ConnectionId),
+    Delay(ConnectionId),
+    Routes(ConnectionId),
+}
+
+fn place(f: Field) -> usize
+    ensures { λ r. ⌜ r ≡ table8 (fieldOf f) .0 ⌝ }
+{
+    match f {
+        Field::Clock => 0,
+        Field::Horizon(p) => 1 + p as usize,
+        Field::Latch(r) => 6 + r as usize,
+        Field::Idle(i) => 12 + i as usize,
+        Field::Time(s) => 268 + 3 * (s.0 as usize),
+        Field::Deadline(s) => 269 + 3 * (s.0 as usize),
+        Field::Mask(s) => 270 + 3 * (s.0 as usize),
+        Field::Outgoing(c) => 1036 + 3 * (c.0 as usize),
+        Field::Delay(c) => 1037 + 3 * (c.0 as usize),
+        Field::Routes(c) => 1038 + 3 * (c.0 as usize),
+    }
+}
+
+// The byte at a place, 0 past the end.
+pub fn byte(area: &[u8], at: usize) -> u8
+    ensures { λ r. ⌜ r ≡ getD (now (area .entry)) at 0 ⌝ }
+{
+    if at < area.len() { area[at] } else { 0 }
+}
+
+// Stores a byte at a place, nothing past the end.
+pub fn put_byte(area: &mut [u8], at: usize, b: u8)
+    ensures { λ _. ⌜ now (area .exit) ≡ set (now (area .entry)) at b ⌝ }
+{
+    if at < area.len() {
+        area[at] = b;
+    }
+}
+
+// Copies all of src into dst from a place on.
+pub fn copy_in(src: &[u8], dst: &mut [u8], at: usize)
+    requires { ⌜ at + length (now src) ≤ length (now dst) ⌝ }
+    ensures { λ _. ⌜ now (dst .exit) ≡ sets (now (dst .entry)) at (now (src .entry)) ⌝ }
+{
+    let mut j = 0;
+    while j < src.len() {
+        dst[at + j] = src[j];
+        j += 1;
+    }
+}
+
+pub fn get(state: &[u8], f: Field) -> u8
+    ensures { λ r. ⌜ r ≡ board8 .get (now (state .entry)) (fieldOf f) ⌝ }
+{
+    byte(state, place(f))
+}
+
+// A field whose place the state has, without a test of its length.
+pub fn read(state: &[u8], f: Field) -> u8
+    requires { ⌜ table8 (fieldOf f) .0 < length (now state) ⌝ }
+    ensures { λ r. ⌜ r ≡ board8 .get (now (state .entry)) (fieldOf f) ⌝ }
+{
+    let at = place(f);
+    state[at]
+}
+
+pub fn put(state: &mut [u8], f: Field, b: u8)
+    ensures { λ _. ⌜ now (state .exit) ≡ board8 .put (now (state .entry)) (fieldOf f) b ⌝ }
+{
+    put_byte(state, place(f), b);
+}
+
+pub fn free_count(state: &[u8]) -> u16
+    requires { ⌜ length (now state) ≡ 1804 ⌝ }
+    ensures { λ r. ⌜ r ≡ board8 .get (now (state .entry)) free ⌝ }
+{
+    (state[10] as u16) * 256 + state[11] as u16
+}
+
+pub fn put_free(state: &mut [u8], n: u16)
+    requires { ⌜ length (now state) ≡ 1804 ⌝ }
+    ensures { λ _. ⌜ now (state .exit) ≡ board8 .put (now (state .entry)) free n ⌝ }
+{
+    state[10] = (n / 256) as u8;
+    state[11] = (n % 256) as u8;
+}
+
+pub fn has_port(mask: u8, port: u8) -> bool
+    requires { ⌜ port < 5 ⌝ }
+    ensures { λ r. ⌜ r ≡ has mask port ⌝ }
+{
+    (mask >> port) % 2 == 1
+}
