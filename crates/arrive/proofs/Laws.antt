@@ -14,7 +14,7 @@ use denote.Enum.Declared.{tagOf}
 use types.Run.{OneOf, miss}
 use borrow.Author.Tests.{eqb-false}
 use Rattle.rules.specs.Clock.{plus, offset}
-use Rattle.rules.specs.Areas.{Store, byte, bits, packet, payload, packed, has, perPort}
+use Rattle.rules.specs.Areas.{Store, byte, bits, packet, payload, packed, has, portsBelow, perPort}
 use Rattle.rules.specs.Board.{clock, free, idle, time, deadline, mask, outgoing, delay, routes}
 use Rattle.rules.specs.Board8.{board8}
 use Rattle.rules.specs.Tick.{arrival, placed, admitted, arrived}
@@ -117,5 +117,5 @@ module _ (r r′ : Store) (arriving p : ℕ) (area k : List ℕ) (ek : k ≡ pac
 
 -- Filled at all five ports.
 pub filled-five : (f : ℕ → ℕ) → filled f 5 ≡ perPort (λ p. f p ∷ [])
-unfolding filled perPort
+unfolding filled portsBelow
 filled-five f = refl

@@ -8,7 +8,7 @@ use native.Mathlib.Omega.{arith}
 use lib.Pow.{pow-add}
 use lib.ListN.{length, take, drop, set, length-append, length-take, length-drop, take-append-drop}
 use lib.Seq.{getD-set-other, sets, length-sets, sets-eq, getD-take, getD-drop, ext-getD, take-at, drop-at, length-take-le, drop-append-add, take-all}
-use Rattle.rules.specs.Areas.{byte, Bytes, low, bits, value, digits, packet, stamp, payload, packed, perPort}
+use Rattle.rules.specs.Areas.{byte, Bytes, low, bits, value, digits, packet, stamp, payload, packed, portsBelow, perPort}
 
 -- ---- a run of stores
 
@@ -150,7 +150,7 @@ skip a l n e = ap (λ (k : ℕ). drop (k + n) (a ++ l)) (sym e) ∙ drop-append-
 
 -- Port by port, packet p is what f gives for p.
 pub packet-perPort : (f : ℕ → List ℕ) → ((q : ℕ) → q < 5 → length (f q) ≡ 20) → (p : ℕ) → p < 5 → packet (perPort f) p ≡ f p
-unfolding packet perPort
+unfolding packet portsBelow
 packet-perPort f h p l = ap (λ (x : List ℕ). take 20 (drop (20 * p) x)) (simp append-assoc) ∙ go p l
   where
     go : (p : ℕ) → p < 5 → take 20 (drop (20 * p) (f 0 ++ (f 1 ++ (f 2 ++ (f 3 ++ f 4))))) ≡ f p

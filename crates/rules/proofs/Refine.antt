@@ -12,7 +12,7 @@ use lib.Dec.{eqb}
 use lib.IntN.{sucℤ, _-ℤ_}
 use borrow.Author.Tests.{eq-eqb, ne-eqb}
 use Rattle.rules.specs.Account.{Kept, stored}
-use Rattle.rules.specs.Areas.{bits, half, value, digits, packet, stamp, packed, perPort, answersArea, Grant, nobody, bestEffort, onTime, early, elem, distinct, Store}
+use Rattle.rules.specs.Areas.{bits, half, value, digits, packet, stamp, packed, portsBelow, perPort, answersArea, Grant, nobody, bestEffort, onTime, early, elem, distinct, Store}
 use Rattle.rules.specs.Board.{Board, clock, horizon, latch, free, idle, time, deadline, mask, outgoing, delay, routes}
 use Rattle.rules.specs.Clock.{cut, plus, minus, offset}
 use Rattle.rules.specs.Questions.{sound, full}
@@ -39,7 +39,7 @@ use Rattle.rules.proofs.RefineEmptied.{ended-rel, withdrawals-same}
 
 -- Port by port.
 perPort-same : (f g : ℕ → List ℕ) → ((p : ℕ) → p < 5 → f p ≡ g p) → perPort f ≡ perPort g
-unfolding perPort
+unfolding portsBelow
 perPort-same f g h = rw (h 0 (omega arith), h 1 (omega arith), h 2 (omega arith), h 3 (omega arith), h 4 (omega arith))
 
 answers-area : {g g′ a a′ n n′ : ℕ → ℕ} → ((p : ℕ) → p < 5 → g p ≡ g′ p) → ((p : ℕ) → p < 5 → a p ≡ a′ p) → ((p : ℕ) → p < 5 → n p ≡ n′ p) → answersArea g a n ≡ answersArea g′ a′ n′

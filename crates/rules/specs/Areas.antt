@@ -81,9 +81,13 @@ fits c register v =
 abbrev pub latchPlace : ℕ → ℕ
 latchPlace register = cond (eqb register 4) 3 register
 
--- What f gives for ports 0 to 4, one after the other.
-unfoldable pub perPort : (ℕ → List ℕ) → List ℕ
-perPort f = f 0 ++ f 1 ++ f 2 ++ f 3 ++ f 4
+-- What f gives for the ports below p, one after the other, and for ports 0 to 4.
+unfoldable pub portsBelow : (ℕ → List ℕ) → ℕ → List ℕ
+portsBelow f zero = []
+portsBelow f (suc p) = let l = portsBelow f p in l ++ f p
+
+abbrev pub perPort : (ℕ → List ℕ) → List ℕ
+perPort f = portsBelow f 5
 
 -- Who has a port in a tick: a packet on time or early, best-effort, or nobody; and its code in the answers.
 pub data Grant (A : Type 0) : Type 0 where

@@ -15,7 +15,7 @@ use lib.Signed.{leZ, ltZ}
 use borrow.Author.Tests.{eqb-true}
 use Rattle.rules.specs.Clock.{minus, offset}
 use Rattle.rules.specs.Indices.{least}
-use Rattle.rules.specs.Areas.{bits, has, without, perPort, Grant, nobody, bestEffort, onTime, early}
+use Rattle.rules.specs.Areas.{bits, has, without, portsBelow, perPort, Grant, nobody, bestEffort, onTime, early}
 use Rattle.rules.specs.Board.{clock, horizon, time, deadline, mask}
 use Rattle.rules.specs.Board8.{board8}
 use Rattle.rules.specs.Tick.{granted, onTimeKey, earlyKey, grant, leave, sent, served}
@@ -169,6 +169,6 @@ grant-served (suc p) q waiting s sized h l =
 
 -- So what is said of the grants before step 3 port by port is said of the grants in it.
 pub ports-served : (F : Grant ℕ → List ℕ) (waiting : ℕ) (s : List ℕ) → length s ≡ 1804 → perPort (λ p. F (grant board8 s waiting p)) ≡ perPort (λ p. F (grant board8 (served board8 p waiting s) waiting p))
-unfolding perPort
+unfolding portsBelow
 ports-served F waiting s e =
     rw (grant-served 0 0 waiting s e (omega arith) (omega arith), grant-served 1 1 waiting s e (omega arith) (omega arith), grant-served 2 2 waiting s e (omega arith) (omega arith), grant-served 3 3 waiting s e (omega arith) (omega arith), grant-served 4 4 waiting s e (omega arith) (omega arith))

@@ -10,7 +10,7 @@ use lib.ListN.{length, getD}
 use lib.Dec.{eqb}
 use borrow.Author.Tests.{eq-eqb, ne-eqb, eqb-true}
 use Rattle.rules.specs.Indices.{count, counted}
-use Rattle.rules.specs.Areas.{has, without, perPort, Grant, nobody, bestEffort, onTime, early}
+use Rattle.rules.specs.Areas.{has, without, portsBelow, perPort, Grant, nobody, bestEffort, onTime, early}
 use Rattle.rules.specs.Board.{Field, clock, free, deadline, mask}
 use Rattle.rules.specs.Board8.{board8, table8}
 use Rattle.rules.specs.Tick.{grant, sent, served, isDue, withdrawn, withdrawals, giveBack, returned, advanced}
@@ -291,7 +291,7 @@ module _ (waiting : ℕ) (s : List ℕ) (sized : length s ≡ 1804) where
     fit i h = rw e (sends-fit i h)
 
     pub counted-is : (n : List ℕ) → n ≡ perPort (λ p. missed s l 256 p ∷ []) → n ≡ perPort (λ p. withdrawals board8 (served board8 5 waiting s) p ∷ [])
-    unfolding perPort
+    unfolding portsBelow
     counted-is n q = q ∙ rw (e, missed-is 0, missed-is 1, missed-is 2, missed-is 3, missed-is 4)
 
     pub advanced-is : board8 .get s free + count 256 (occupied s) ≤ 256 → (r r′ : List ℕ) → r ≡ settled s l 256 → r′ ≡ advanced board8 r

@@ -7,7 +7,7 @@ use native.Mathlib.Decide.{ℕ-discrete, decLt}
 use native.Mathlib.Omega.{arith}
 use lib.ListN.{length, length-set, length-append, length-take, length-drop, drop-of-length-le, getD, set, take, drop, replicate}
 use lib.Seq.{sets, sets-eq, take-at, drop-append-add, drop-drop, getD-set-same, getD-set-other, set-out}
-use Rattle.rules.specs.Areas.{packet, has, without, perPort, Grant, nobody, bestEffort, onTime, early}
+use Rattle.rules.specs.Areas.{packet, has, without, portsBelow, perPort, Grant, nobody, bestEffort, onTime, early}
 use Rattle.rules.specs.Board.{mask}
 use Rattle.rules.specs.Board8.{board8}
 use Rattle.rules.specs.Tick.{grant, grantBytes, sent, served}
@@ -168,7 +168,7 @@ module _ (f : ℕ → List ℕ) (out : List ℕ) (h : (p : ℕ) → length (f p)
 
   -- One after the other they fill it.
   filled-five : filled 5 ≡ perPort f
-  unfolding perPort
+  unfolding portsBelow
   filled-five = filled-is 5 (omega arith) ∙ rw (drop-of-length-le out {i = 100} (omega arith)) (append-nil _)
 
   pub packets-five : (a b c d e : List ℕ) → a ≡ sets out 0 (f 0) → b ≡ sets a 20 (f 1) → c ≡ sets b 40 (f 2) → d ≡ sets c 60 (f 3) → e ≡ sets d 80 (f 4) → e ≡ perPort f
@@ -176,5 +176,5 @@ module _ (f : ℕ → List ℕ) (out : List ℕ) (h : (p : ℕ) → length (f p)
 
 -- Five numbers, port by port.
 pub numbers-five : (f : ℕ → ℕ) (a b c d e : ℕ) → a ≡ f 0 → b ≡ f 1 → c ≡ f 2 → d ≡ f 3 → e ≡ f 4 → (a ∷ b ∷ c ∷ d ∷ e ∷ []) ≡ perPort (λ p. f p ∷ [])
-unfolding perPort
+unfolding portsBelow
 numbers-five f a b c d e ea eb ec ed ee = rw (ea, eb, ec, ed, ee)

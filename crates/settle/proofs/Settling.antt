@@ -10,7 +10,7 @@ use lib.ListN.{length, getD}
 use lib.Dec.{eqb}
 use borrow.Author.Tests.{eq-eqb, ne-eqb, eqb-true}
 use Rattle.rules.specs.Indices.{count, counted}
-use Rattle.rules.specs.Areas.{has, perPort}
+use Rattle.rules.specs.Areas.{has, portsBelow, perPort}
 use Rattle.rules.specs.Board.{Field, clock, free, idle, deadline, mask}
 use Rattle.rules.specs.Board8.{board8, table8}
 use Rattle.rules.specs.Tick.{isDue, giveBack}
@@ -214,7 +214,7 @@ module _ (s l : List ℕ) where
   counts-empty i z = rw (eq-eqb (board8 .get s (mask i)) 0 z) at (counts-suc i)
 
   pub counts-five : (c : Counts) (i : ℕ) → c ≡ counts s l i → (c .p0 ∷ c .p1 ∷ c .p2 ∷ c .p3 ∷ c .p4 ∷ []) ≡ perPort (λ p. missed s l i p ∷ [])
-  unfolding perPort
+  unfolding portsBelow
   counts-five c i e = ap (λ (c : Counts). c .p0 ∷ c .p1 ∷ c .p2 ∷ c .p3 ∷ c .p4 ∷ []) e
 
   few : (i : ℕ) → i ≤ 256 → Few (counts s l i)

@@ -5,7 +5,7 @@ use mathlib.Core.List.{List, [], _++_}
 use native.Mathlib.Omega.{arith}
 use lib.ListN.{length, length-append, getD}
 use lib.Dec.{leb}
-use Rattle.rules.specs.Areas.{byte, perPort}
+use Rattle.rules.specs.Areas.{byte, portsBelow, perPort}
 use Rattle.text.specs.Lines.{refusedLine}
 use Rattle.text.proofs.Texts.{length-number, length-refused, length-tick}
 use Rattle.tapes.specs.Tape.{Event, nothing, refused, ticked, refusedArrival, tickedLines, eventLines}
@@ -20,7 +20,7 @@ length-arrival records ans p = go (leb 6 (byte ans (5 + p)))
     go false = omega arith
 
 pub length-arrivals : (records ans : List ℕ) → length (perPort (refusedArrival records ans)) ≤ 130
-unfolding perPort
+unfolding portsBelow
 length-arrivals records ans =
     let f = refusedArrival records ans in
     let h = length-arrival records ans in

@@ -6,7 +6,7 @@ use native.Mathlib.Nat.{add-zero, add-suc, suc-add}
 use native.Mathlib.Omega.{arith}
 use lib.ListN.{length, length-append, set, take, drop}
 use lib.Seq.{sets, sets-eq, set-comm, take-at, length-take-le}
-use Rattle.rules.specs.Areas.{perPort}
+use Rattle.rules.specs.Areas.{portsBelow, perPort}
 use Rattle.text.specs.Put.{Put}
 
 pub sets-append : (l : List ℕ) (at : ℕ) (a b : List ℕ) → sets (sets l at a) (at + length a) b ≡ sets l at (a ++ b)
@@ -42,7 +42,7 @@ ports f zero = []
 ports f (suc p) = ports f p ++ f p
 
 pub all-ports : (f : ℕ → List ℕ) → ports f 5 ≡ perPort f
-unfolding ports perPort
+unfolding ports portsBelow
 all-ports f = refl
 
 -- What was printed from the start, where there is room.

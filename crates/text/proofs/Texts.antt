@@ -10,7 +10,7 @@ use lib.Seq.{sets}
 use lib.Dec.{ltb, eqb}
 use borrow.Author.Tests.{lt-ltb, le-ltb}
 use Rattle.text.specs.Lines.{decimal, atLeastSix, recordNumber, hex, field, portField, refusedLine, tickText, tickLine}
-use Rattle.rules.specs.Areas.{byte, perPort}
+use Rattle.rules.specs.Areas.{byte, portsBelow, perPort}
 use Rattle.text.proofs.Stores.{sets-append, sets-set}
 
 pub length-decimal : (k v : ℕ) → length (decimal k v) ≡ k
@@ -79,7 +79,7 @@ unfolding portField
 length-port out ans p = rw (length-field (byte ans p) (byte out (20 * p)))
 
 pub length-ports : (out ans : List ℕ) → length (perPort (portField out ans)) ≡ 20
-unfolding perPort
+unfolding portsBelow
 length-ports out ans = simp (length-append, length-port)
 
 -- A refused record's line has 12 to 26 characters, a tick's 30, and each its line feed among or after them.

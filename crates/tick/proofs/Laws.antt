@@ -5,7 +5,7 @@ use mathlib.Core.List.{List, [], _∷_, _++_, append-nil}
 use native.Mathlib.Omega.{arith}
 use lib.ListN.{length, getD, drop, set, length-append}
 use lib.Seq.{drop-length, sets, sets-eq}
-use Rattle.rules.specs.Areas.{Store, packet, answersArea, perPort, grantCode}
+use Rattle.rules.specs.Areas.{Store, packet, answersArea, portsBelow, perPort, grantCode}
 use Rattle.rules.specs.Board8.{board8}
 use Rattle.rules.specs.Tick.{Outcome, arrival, arrived, grant, grantBytes, served, withdrawals, withdrawn, returned, advanced, ticked}
 use Rattle.tick.specs.Answers.{laid}
@@ -19,7 +19,7 @@ pub ticked-is : (r r₁ : Store) (arriving waiting : ℕ) (area out ans codes me
     → s ≡ advanced board8 (returned board8 256 (r₁ .state) (withdrawn board8 256 (served board8 5 waiting (r₁ .state))))
     → ans ≡ laid codes met counts
     → _≡_ {A = Outcome} (record { reply = record { number = 0; outgoing = out; answers = ans }; store = record { state = s; memory = r₁ .memory } }) (ticked board8 r arriving waiting area)
-unfolding ticked answersArea perPort
+unfolding ticked answersArea portsBelow
 ticked-is r r₁ arriving waiting area out ans codes met counts s e₁ em ec eo en es ea = rw (ea, es, en, eo, ec, em, ← e₁)
 
 -- Two stores, one after the other, are one.
@@ -39,11 +39,11 @@ filled l a b d hl ha hb hd =
 
 -- Five numbers, port by port.
 pub length-five : (f : ℕ → ℕ) (l : List ℕ) → l ≡ perPort (λ p. f p ∷ []) → length l ≡ 5
-unfolding perPort
+unfolding portsBelow
 length-five f l e = ap length e
 
 five : (l : List ℕ) → length l ≡ 5 → perPort (λ p. getD l p 0 ∷ []) ≡ l
-unfolding perPort
+unfolding portsBelow
 five [] h = absurd (omega arith)
 five (a ∷ []) h = absurd (omega arith)
 five (a ∷ b ∷ []) h = absurd (omega arith)
@@ -57,7 +57,7 @@ pub laid-is : (l l₁ l₂ l₃ codes met counts : List ℕ) (h₀ k₀ h₁ k�
     → l₁ ≡ sets l 0 codes → l₂ ≡ sets l₁ 5 met → l₃ ≡ sets l₂ 10 (h₀ ∷ k₀ ∷ h₁ ∷ k₁ ∷ h₂ ∷ k₂ ∷ h₃ ∷ k₃ ∷ h₄ ∷ k₄ ∷ [])
     → h₀ ≡ getD counts 0 0 / 256 → k₀ ≡ getD counts 0 0 % 256 → h₁ ≡ getD counts 1 0 / 256 → k₁ ≡ getD counts 1 0 % 256 → h₂ ≡ getD counts 2 0 / 256 → k₂ ≡ getD counts 2 0 % 256
     → h₃ ≡ getD counts 3 0 / 256 → k₃ ≡ getD counts 3 0 % 256 → h₄ ≡ getD counts 4 0 / 256 → k₄ ≡ getD counts 4 0 % 256 → l₃ ≡ laid codes met counts
-unfolding answersArea perPort
+unfolding answersArea portsBelow
 laid-is l l₁ l₂ l₃ codes met counts h₀ k₀ h₁ k₁ h₂ k₂ h₃ k₃ h₄ k₄ hl hc hm e₁ e₂ e₃ q₀ r₀ q₁ r₁ q₂ r₂ q₃ r₃ q₄ r₄ =
     let w = h₀ ∷ k₀ ∷ h₁ ∷ k₁ ∷ h₂ ∷ k₂ ∷ h₃ ∷ k₃ ∷ h₄ ∷ k₄ ∷ [] in
     e₃ ∙ rw (e₂, e₁) (filled l codes met w hl hc hm refl ∙ ap₂ (λ (x y : List ℕ). x ++ y ++ w) (sym (five codes hc)) (sym (five met hm)) ∙ rw (q₀, r₀, q₁, r₁, q₂, r₂, q₃, r₃, q₄, r₄))
