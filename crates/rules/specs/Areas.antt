@@ -20,6 +20,22 @@ pub record Reply : Type 0 where
 abbrev pub numberReply : ℕ → Reply
 numberReply n = record { number = n; outgoing = []; answers = [] }
 
+-- Lengths: of a packet, and of each area but the state, whose length is the board's.
+abbrev pub packetLength : ℕ
+packetLength = 20
+
+abbrev pub memoryLength : ℕ
+memoryLength = 5120
+
+abbrev pub arrivalsLength : ℕ
+arrivalsLength = 100
+
+abbrev pub outgoingLength : ℕ
+outgoingLength = 100
+
+abbrev pub answersLength : ℕ
+answersLength = 20
+
 abbrev pub byte : List ℕ → ℕ → ℕ
 byte l i = getD l i 0
 
@@ -48,7 +64,7 @@ digits (suc k) v = v / 256 ^ k ∷ digits k (v % 256 ^ k)
 
 -- A packet has 20 bytes: connection identifier, a time of c bytes, data. Packet i of an area is slot i's in the memory, port i's in arrivals and outgoing.
 unfoldable pub packet : List ℕ → ℕ → List ℕ
-packet area i = take 20 (drop (20 * i) area)
+packet area i = take packetLength (drop (packetLength * i) area)
 
 -- The time in a packet's header, and its data.
 unfoldable pub stamp : ℕ → List ℕ → ℕ
@@ -62,7 +78,7 @@ packed c identifier v data′ = identifier ∷ digits c v ++ data′
 
 -- The display software's part of the outgoing area: the data of one port, empty exactly if the area isn't 100 bytes or the port is above 4.
 unfoldable pub display : ℕ → List ℕ → ℕ → List ℕ
-display c area p = cond (eqb (length area) 100 && leb p 4) (payload c (packet area p)) []
+display c area p = cond (eqb (length area) outgoingLength && leb p 4) (payload c (packet area p)) []
 
 -- A port mask has bit p for port p, 0 to 4.
 unfoldable pub has : ℕ → ℕ → Bool
@@ -104,11 +120,11 @@ grantCode (early x) = 3
 
 -- For a port without a packet.
 abbrev pub noPacket : List ℕ
-noPacket = replicate 20 0
+noPacket = replicate packetLength 0
 
 -- The arrivals, outgoing and answers areas of a tick have their lengths.
 unfoldable pub areasFull : List ℕ → List ℕ → List ℕ → Bool
-areasFull area out ans = eqb (length area) 100 && eqb (length out) 100 && eqb (length ans) 20
+areasFull area out ans = eqb (length area) arrivalsLength && eqb (length out) outgoingLength && eqb (length ans) answersLength
 
 -- Per port who has it, what its arrival met, and how many were withdrawn, in two bytes, high first.
 unfoldable pub answersArea : (ℕ → ℕ) → (ℕ → ℕ) → (ℕ → ℕ) → List ℕ

@@ -8,7 +8,7 @@ use lib.IntN.{pos, negℤ}
 use lib.Signed.{leZ}
 use Rattle.rules.specs.Clock.{minus, offset}
 use Rattle.rules.specs.Indices.{all, topFirst}
-use Rattle.rules.specs.Areas.{Store, numberReply, areasFull, bits, half, packet, stamp, fits, elem, distinct}
+use Rattle.rules.specs.Areas.{Store, numberReply, memoryLength, areasFull, bits, half, packet, stamp, fits, elem, distinct}
 use Rattle.rules.specs.Board.{Board, clock, horizon, latch, free, idle, time, deadline, mask, delay, routes}
 use Rattle.rules.specs.Control.{written}
 use Rattle.rules.specs.Tick.{Outcome, ticked}
@@ -18,7 +18,7 @@ module _ (B : Board) where
 
   -- 1: does every lent area have its length?
   unfoldable pub full : Store → Bool
-  full r = eqb (length (r .state)) stateLength && eqb (length (r .memory)) 5120
+  full r = eqb (length (r .state)) stateLength && eqb (length (r .memory)) memoryLength
 
   -- 2: is the state sound? d, horizons and registers are in range, and the table's masks at most 31.
   abbrev pub connectionSound : List ℕ → ℕ → Bool
@@ -71,7 +71,7 @@ module _ (B : Board) where
 
   -- A fresh router: the given clock, and zero memory.
   unfoldable pub fresh : ℕ → Store
-  fresh t = record { state = freshState t; memory = replicate 5120 0 }
+  fresh t = record { state = freshState t; memory = replicate memoryLength 0 }
 
   unfoldable pub makeFresh : Store → ℕ → Outcome
   makeFresh r t = cond (full r) (record { reply = numberReply 0; store = fresh t }) (record { reply = numberReply 1; store = r })

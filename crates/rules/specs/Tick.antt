@@ -9,7 +9,7 @@ use lib.IntN.{pos, negℤ}
 use lib.Signed.{ltZ, leZ}
 use Rattle.rules.specs.Clock.{plus, minus, offset}
 use Rattle.rules.specs.Indices.{least, count}
-use Rattle.rules.specs.Areas.{Store, Reply, byte, bits, packet, stamp, payload, packed, has, without, perPort, Grant, nobody, bestEffort, onTime, early, grantCode, noPacket, answersArea}
+use Rattle.rules.specs.Areas.{Store, Reply, packetLength, byte, bits, packet, stamp, payload, packed, has, without, perPort, Grant, nobody, bestEffort, onTime, early, grantCode, noPacket, answersArea}
 use Rattle.rules.specs.Board.{Board, clock, horizon, free, idle, time, deadline, mask, outgoing, delay, routes}
 
 -- From the least on-time key, best-effort's wait, the least early key and the horizon.
@@ -51,7 +51,7 @@ module _ (B : Board) where
       let d = plus (bits c) (stamp c k) (get s (delay (byte k 0))) in
       record {
         state = put (put (put (put s free n) (time i) (stamp c k)) (deadline i) d) (mask i) (get s (routes (byte k 0)));
-        memory = sets (r .memory) (20 * i) (packed c (get s (outgoing (byte k 0))) d (payload c k));
+        memory = sets (r .memory) (packetLength * i) (packed c (get s (outgoing (byte k 0))) d (payload c k));
       }
 
   abbrev pub admitted : Store → ℕ → ℕ → List ℕ → Store
