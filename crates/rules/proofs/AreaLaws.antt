@@ -2,12 +2,13 @@
 use Prim.Native.Nat.{ℕ, zero, suc, _+_, _-_, _*_, _/_, _%_, _^_, _<_, _≤_}
 use mathlib.Core.Path.{_≡_, refl, sym, ap, ap₂, subst, _∙_}
 use mathlib.Core.Logic.{_≢_}
-use mathlib.Core.List.{List, [], _∷_, _++_, append-assoc}
-use native.Mathlib.Nat.{div-add-mod', mod-one, mod-eq-of-lt, div-eq-of-lt, mul-add-div-right, mul-add-mod-self-right, mul-le-mul-right, pow-suc}
+use mathlib.Core.List.{List, [], _∷_, _++_, append-assoc, append-nil}
+use native.Mathlib.Decide.{decLt}
+use native.Mathlib.Nat.{mul-zero, mul-suc, div-add-mod', mod-one, mod-eq-of-lt, div-eq-of-lt, mul-add-div-right, mul-add-mod-self-right, mul-le-mul-left, mul-le-mul-right, pow-suc}
 use native.Mathlib.Omega.{arith}
 use lib.Pow.{pow-add}
-use lib.ListN.{length, take, drop, set, length-append, length-take, length-drop, take-append-drop}
-use lib.Seq.{getD-set-other, sets, length-sets, sets-eq, getD-take, getD-drop, ext-getD, take-at, drop-at, length-take-le, drop-append-add, take-all}
+use lib.ListN.{length, take, drop, set, length-append, length-take, length-drop, take-append-drop, drop-of-length-le}
+use lib.Seq.{set-set, set-comm, getD-set-other, sets, length-sets, sets-eq, getD-take, getD-drop, ext-getD, take-at, drop-at, length-take-le, take-append-le, drop-append-le, drop-append-add, drop-drop, take-all}
 use Rattle.rules.specs.Areas.{byte, Bytes, low, bits, value, digits, packet, stamp, payload, packed, portsBelow, perPort}
 
 -- ---- a run of stores
@@ -18,6 +19,31 @@ sets-other [] s i k h = refl
 sets-other (v ∷ vs) s i k h =
     sets-other vs (set s i v) (suc i) k (λ j l e. h (suc j) (omega arith) (omega arith))
     ∙ getD-set-other s i k v 0 (λ e. h 0 (omega arith) (omega arith))
+
+-- It commutes with a store elsewhere, and with a run of stores elsewhere; of two at one place the later stands.
+sets-set : (vs s : List ℕ) (i k v : ℕ) → ((j : ℕ) → j < length vs → k ≢ i + j) → sets (set s k v) i vs ≡ set (sets s i vs) k v
+sets-set [] s i k v h = refl
+sets-set (w ∷ vs) s i k v h =
+    ap (λ (x : List ℕ). sets x (suc i) vs) (set-comm s k i v w (λ e. h 0 (omega arith) (omega arith)))
+    ∙ sets-set vs (set s i w) (suc i) k v (λ j l e. h (suc j) (omega arith) (omega arith))
+
+pub sets-comm : (vs ws s : List ℕ) (i j : ℕ) → ((k l : ℕ) → k < length vs → l < length ws → j + l ≢ i + k) → sets (sets s i vs) j ws ≡ sets (sets s j ws) i vs
+sets-comm [] ws s i j h = refl
+sets-comm (v ∷ vs) ws s i j h =
+    sets-comm vs ws (set s i v) (suc i) j (λ k l a b e. h (suc k) l (omega arith) b (omega arith))
+    ∙ ap (λ (x : List ℕ). sets x (suc i) vs) (sets-set ws s j i v (λ l b e. h 0 l (omega arith) b (omega arith)))
+
+pub sets-sets : (vs ws s : List ℕ) (i : ℕ) → length vs ≡ length ws → sets (sets s i vs) i ws ≡ sets s i ws
+sets-sets [] [] s i e = refl
+sets-sets [] (w ∷ ws) s i e = absurd (omega arith)
+sets-sets (v ∷ vs) [] s i e = absurd (omega arith)
+sets-sets (v ∷ vs) (w ∷ ws) s i e =
+    ap (λ (x : List ℕ). sets x (suc i) ws) (sym (sets-set vs (set s i v) (suc i) i w (λ j l q. absurd (omega arith))) ∙ ap (λ (x : List ℕ). sets x (suc i) vs) (set-set s i v w))
+    ∙ sets-sets vs ws (set s i w) (suc i) (omega arith)
+
+-- One over a whole area leaves what was stored, and one after another is one of both.
+pub sets-all : (d s : List ℕ) → length d ≡ length s → sets d 0 s ≡ s
+sets-all d s e = sets-eq s d 0 (omega arith) ∙ rw (drop-of-length-le d {i = 0 + length s} (omega arith)) (append-nil s)
 
 -- The part that it wrote is what was written, and a part apart from it is as before.
 pub part-same : (s vs : List ℕ) (i n : ℕ) → length vs ≡ n → i + n ≤ length s → take n (drop i (sets s i vs)) ≡ vs
@@ -142,21 +168,62 @@ packed-parts c (x ∷ l) b e h =
     let s : 1 + c ≡ suc c = omega arith in
     rw (s, d) (ap (λ (m : List ℕ). x ∷ m) (take-append-drop c l))
 
--- ---- five packets, one after the other
+-- ---- what each port gives, one after the other
 
--- The first packet of an area is passed over.
-skip : (a l : List ℕ) (n : ℕ) → length a ≡ 20 → drop (20 + n) (a ++ l) ≡ drop n l
-skip a l n e = ap (λ (k : ℕ). drop (k + n) (a ++ l)) (sym e) ∙ drop-append-add a l n
+-- Port by port.
+pub portsBelow-same : (f g : ℕ → List ℕ) (n : ℕ) → ((p : ℕ) → p < n → f p ≡ g p) → portsBelow f n ≡ portsBelow g n
+unfolding portsBelow
+portsBelow-same f g zero h = refl
+portsBelow-same f g (suc n) h = ap₂ (λ (l m : List ℕ). l ++ m) (portsBelow-same f g n (λ p l. h p (omega arith))) (h n (omega arith))
 
--- Port by port, packet p is what f gives for p.
+-- Each port gives k bytes.
+module _ (k : ℕ) (f : ℕ → List ℕ) where
+  pub length-portsBelow : (n : ℕ) → ((p : ℕ) → p < n → length (f p) ≡ k) → length (portsBelow f n) ≡ k * n
+  unfolding portsBelow
+  length-portsBelow zero h = omega (arith, mul-zero k)
+  length-portsBelow (suc n) h =
+      rw length-append (let a = length-portsBelow n (λ p l. h p (omega arith)) in let b = h n (omega arith) in omega (arith, mul-suc k n))
+
+  -- The part at k * p is what port p gives: in what the lower ports give, or after all of that.
+  pub part-portsBelow : (n : ℕ) → ((p : ℕ) → p < n → length (f p) ≡ k) → (p : ℕ) → p < n → take k (drop (k * p) (portsBelow f n)) ≡ f p
+  unfolding portsBelow
+  part-portsBelow zero h p l = absurd (omega arith)
+  part-portsBelow (suc n) h p l = go (λ m. part-portsBelow n (λ q i. h q (omega arith)) p m) (decLt p n)
+    where
+      a : length (portsBelow f n) ≡ k * n
+      a = length-portsBelow n (λ q i. h q (omega arith))
+
+      go : (p < n → take k (drop (k * p) (portsBelow f n)) ≡ f p) → Dec (p < n) → take k (drop (k * p) (portsBelow f n ++ f n)) ≡ f p
+      go below (yes m) =
+          let s = a in
+          let b = mul-le-mul-left {m = suc p} {n = n} k m in
+          let e = mul-suc k p in
+          let d = length-drop (k * p) (portsBelow f n) in
+          rw (drop-append-le (k * p) (portsBelow f n) (f n) (omega arith)) (take-append-le k (drop (k * p) (portsBelow f n)) (f n) (omega arith) ∙ below m)
+      go below (no m) =
+          let e : p ≡ n = omega arith in
+          let b = h n (omega arith) in
+          rw (e, drop-at (portsBelow f n) (f n) (k * n) a) (take-all k (f n) (omega arith))
+
+  -- An area that the ports below p have filled, each its part, and port p fills on.
+  abbrev pub filled : List ℕ → ℕ → List ℕ
+  filled d p = portsBelow f p ++ drop (k * p) d
+
+  pub filled-next : (d : List ℕ) (p : ℕ) → ((q : ℕ) → q < suc p → length (f q) ≡ k) → k * suc p ≤ length d → sets (filled d p) (k * p) (f p) ≡ filled d (suc p)
+  unfolding portsBelow
+  filled-next d p h l =
+      let a = length-portsBelow p (λ q i. h q (omega arith)) in
+      let b = h p (omega arith) in
+      let e = mul-suc k p in
+      let n = length-drop (k * p) d in
+      let s : k * p + k ≡ k * suc p = omega arith in
+      sets-eq (f p) (filled d p) (k * p) (rw length-append (omega arith))
+      ∙ rw (take-at (portsBelow f p) (drop (k * p) d) (k * p) a, b, ← a, drop-append-add (portsBelow f p) (drop (length (portsBelow f p)) d) k, a, drop-drop k (k * p) d, s)
+
+  pub filled-all : (d : List ℕ) (n : ℕ) → length d ≡ k * n → filled d n ≡ portsBelow f n
+  filled-all d n e = rw (drop-of-length-le d {i = k * n} (omega arith)) (append-nil (portsBelow f n))
+
+-- Packet p of what five ports give is port p's.
 pub packet-perPort : (f : ℕ → List ℕ) → ((q : ℕ) → q < 5 → length (f q) ≡ 20) → (p : ℕ) → p < 5 → packet (perPort f) p ≡ f p
-unfolding packet portsBelow
-packet-perPort f h p l = ap (λ (x : List ℕ). take 20 (drop (20 * p) x)) (simp append-assoc) ∙ go p l
-  where
-    go : (p : ℕ) → p < 5 → take 20 (drop (20 * p) (f 0 ++ (f 1 ++ (f 2 ++ (f 3 ++ f 4))))) ≡ f p
-    go zero l = take-at (f 0) (f 1 ++ (f 2 ++ (f 3 ++ f 4))) 20 (h 0 (omega arith))
-    go (suc zero) l = ap (take 20) (skip (f 0) (f 1 ++ (f 2 ++ (f 3 ++ f 4))) 0 (h 0 (omega arith))) ∙ take-at (f 1) (f 2 ++ (f 3 ++ f 4)) 20 (h 1 (omega arith))
-    go (suc (suc zero)) l = ap (take 20) (skip (f 0) (f 1 ++ (f 2 ++ (f 3 ++ f 4))) 20 (h 0 (omega arith)) ∙ skip (f 1) (f 2 ++ (f 3 ++ f 4)) 0 (h 1 (omega arith))) ∙ take-at (f 2) (f 3 ++ f 4) 20 (h 2 (omega arith))
-    go (suc (suc (suc zero))) l = ap (take 20) (skip (f 0) (f 1 ++ (f 2 ++ (f 3 ++ f 4))) 40 (h 0 (omega arith)) ∙ skip (f 1) (f 2 ++ (f 3 ++ f 4)) 20 (h 1 (omega arith)) ∙ skip (f 2) (f 3 ++ f 4) 0 (h 2 (omega arith))) ∙ take-at (f 3) (f 4) 20 (h 3 (omega arith))
-    go (suc (suc (suc (suc zero)))) l = ap (take 20) (skip (f 0) (f 1 ++ (f 2 ++ (f 3 ++ f 4))) 60 (h 0 (omega arith)) ∙ skip (f 1) (f 2 ++ (f 3 ++ f 4)) 40 (h 1 (omega arith)) ∙ skip (f 2) (f 3 ++ f 4) 20 (h 2 (omega arith)) ∙ skip (f 3) (f 4) 0 (h 3 (omega arith))) ∙ take-all 20 (f 4) (let e = h 4 (omega arith) in omega arith)
-    go (suc (suc (suc (suc (suc p))))) l = absurd (omega arith)
+unfolding packet
+packet-perPort f h p l = part-portsBelow 20 f 5 h p l

@@ -8,7 +8,7 @@ use lib.Dec.{eqb}
 use borrow.Author.Tests.{ltb-true, lt-ltb}
 use Rattle.rules.specs.Account.{Kept}
 use Rattle.rules.specs.Areas.{has, fits, Store}
-use Rattle.rules.specs.Board.{Board, Field, horizon, latch, outgoing, delay, routes}
+use Rattle.rules.specs.Board.{Board, Kind, Horizon, Field, latch, outgoing, delay, routes}
 use Rattle.rules.specs.Control.{commitEntry, commitHorizon, written}
 use Rattle.rules.specs.Whole.{Entry, Router}
 use Rattle.rules.specs.Whole as Whole
@@ -25,7 +25,7 @@ module _ (B : Board) (L : Laws B) where
     s = r .state
 
     -- The state met, for what is not a setting.
-    met : {t : ℕ → Bool} → Reads B L t s (get s)
+    met : {t : Kind → Bool} → Reads B L t s (get s)
     met = reads-self B L s (R .settings .sized)
 
     -- What a register holds.
@@ -68,10 +68,10 @@ module _ (B : Board) (L : Laws B) where
 
     module _ (m h : ℕ) where
       -- The horizon is stored for the ports of the mask, one after the other.
-      committed : {t : ℕ → Bool} {σ : Field → ℕ} → Reads B L t s σ → (n : ℕ) → n ≤ 5 → Reads B L t (commitHorizon B n m h s) (marked B L horizon (λ i. refl) (λ i. refl) (has m) h σ n)
+      committed : {t : Kind → Bool} {σ : Field → ℕ} → Reads B L t s σ → (n : ℕ) → n ≤ 5 → Reads B L t (commitHorizon B n m h s) (marked B L Horizon (has m) h σ n)
       unfolding commitHorizon
-      committed {σ = σ} S zero l = marked-none B L horizon (λ i. refl) (λ i. refl) (has m) h σ S
-      committed {σ = σ} S (suc n) l = marked-next B L horizon (λ i. refl) (λ i. refl) (has m) h σ n (committed S n (omega arith)) (omega arith)
+      committed {σ = σ} S zero l = marked-none B L Horizon (has m) h σ S
+      committed {σ = σ} S (suc n) l = marked-next B L Horizon (has m) h σ n (committed S n (omega arith)) (omega arith)
 
     -- The ports of register 4 as the router has them.
     horizon-rel : (v : ℕ) → Rel B L (with-state B L r (commitHorizon B 5 (get s (latch 3)) v s)) (record { clock = w .clock; horizon = λ p. cond (has (w .latch 3) p) v (w .horizon p); latch = w .latch; entry = w .entry; place = w .place; free = w .free })
@@ -79,7 +79,7 @@ module _ (B : Board) (L : Laws B) where
         let m = get s (latch 3) in
         rel-settings B L R K
         (reads-as B L (committed m v (R .settings) 5 (omega arith)) (on-settings _ _ refl (λ p l. rw (lt-ltb p 5 l, register-same 3 (omega arith))) (λ j l. refl) (λ i l. (refl, refl, refl))))
-        (reads-apart B L (horizon 0) _ v refl (committed m v met 5 (omega arith))) refl refl
+        (reads-apart B L Horizon _ v refl (committed m v met 5 (omega arith))) refl refl
 
     -- ---- the write
 

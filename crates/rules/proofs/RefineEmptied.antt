@@ -6,18 +6,18 @@ use mathlib.Core.List.{List, _∷_}
 use mathlib.Core.Option.{Option, none, some}
 use native.Mathlib.Omega.{arith}
 use lib.ListN.{length, length-append}
-use lib.Dec.{leb, eqb}
+use lib.Dec.{eqb}
 use lib.IntN.{ℤ}
 use borrow.Author.Tests.{eq-eqb, ne-eqb, eqb-true, lt-ltb, le-ltb}
 use Rattle.rules.specs.Account.{stored, Kept}
 use Rattle.rules.specs.Areas.{half, packet, has, Store}
-use Rattle.rules.specs.Board.{Board, Field, clock, free, idle, time, deadline, mask}
+use Rattle.rules.specs.Board.{Board, Kind, Free, Idle, Mask, Field, clock, free, idle, time, deadline, mask}
 use Rattle.rules.specs.Demand3.{HeldShown}
 use Rattle.rules.specs.Indices.{count, counted, topFirst}
 use Rattle.rules.specs.Questions.{stack}
 use Rattle.rules.specs.Tick.{isDue as isDueNow, withdrawn, withdrawals, giveBack, returned}
 use Rattle.rules.specs.Whole.{Held, Router, toServe, isDue, due, remaining, freed, emptied, isHeld}
-use Rattle.rules.proofs.BoardLaws.{Laws, sameField}
+use Rattle.rules.proofs.BoardLaws.{Laws, sameKind, sameField}
 use Rattle.rules.specs.Whole as Whole
 use Rattle.rules.proofs.Booleans.{and-left}
 use Rattle.rules.proofs.IndexLaws.{count-pos}
@@ -59,18 +59,18 @@ module _ (B : Board) (L : Laws B) where
   -- ---- step 4
 
   -- It clears the mask of each slot that is due, one slot after the other.
-  withdrawn-reads : (s : List ℕ) → length s ≡ stateLength → (n : ℕ) → n ≤ 256 → Reads B L none-out (withdrawn B n s) (marked B L mask (λ i. refl) (λ i. refl) (isDueNow B s) 0 (get s) n)
+  withdrawn-reads : (s : List ℕ) → length s ≡ stateLength → (n : ℕ) → n ≤ 256 → Reads B L none-out (withdrawn B n s) (marked B L Mask (isDueNow B s) 0 (get s) n)
   unfolding withdrawn
-  withdrawn-reads s z zero l = marked-none B L mask (λ i. refl) (λ i. refl) (isDueNow B s) 0 (get s) (reads-self B L s z)
+  withdrawn-reads s z zero l = marked-none B L Mask (isDueNow B s) 0 (get s) (reads-self B L s z)
   withdrawn-reads s z (suc n) l =
       let M = withdrawn-reads s z n (omega arith) in
-      rw (M .reads (deadline n) refl (omega arith), M .reads clock refl (omega arith)) (marked-next B L mask (λ i. refl) (λ i. refl) (isDueNow B s) 0 (get s) n M (omega arith))
+      rw (M .reads (deadline n) refl (omega arith), M .reads clock refl (omega arith)) (marked-next B L Mask (isDueNow B s) 0 (get s) n M (omega arith))
 
   -- ---- a slot goes back on the stack
 
-  module _ {t : ℕ → Bool} {s : List ℕ} {σ : Field → ℕ} (R : Reads B L t s σ) (i : ℕ) (room : get s free < 256) where
+  module _ {t : Kind → Bool} {s : List ℕ} {σ : Field → ℕ} (R : Reads B L t s σ) (i : ℕ) (room : get s free < 256) where
     -- No other field changes.
-    push-reads : t 3 ≡ true → t 4 ≡ true → Reads B L t (giveBack B i s) σ
+    push-reads : t Free ≡ true → t Idle ≡ true → Reads B L t (giveBack B i s) σ
     push-reads h₃ h₄ = reads-off B L (reads-off B L R (idle (get s free)) i room h₄) free (get s free + 1) (omega arith) h₃
 
     -- The entry stored is the top, and those below stay.
@@ -102,7 +102,7 @@ module _ (B : Board) (L : Laws B) where
     abbrev s₃ : List ℕ
     s₃ = withdrawn B 256 s
 
-    M : Reads B L none-out s₃ (marked B L mask (λ i. refl) (λ i. refl) (isDueNow B s) 0 (get s) 256)
+    M : Reads B L none-out s₃ (marked B L Mask (isDueNow B s) 0 (get s) 256)
     M = withdrawn-reads s (R .settings .sized) 256 (omega arith)
 
     -- A slot that is due has no port left, any other keeps its ports.
@@ -123,8 +123,8 @@ module _ (B : Board) (L : Laws B) where
     abbrev e : ℕ → Router
     e n = emptied t n w
 
-    abbrev stacks : ℕ → Bool
-    stacks k = leb 3 k && leb k 4
+    abbrev stacks : Kind → Bool
+    stacks k = sameKind k Free || sameKind k Idle
 
     -- After the slots below n: settings and slots stay, and the stack is the free list.
     record Back (n : ℕ) : Type 0 where
@@ -173,7 +173,7 @@ module _ (B : Board) (L : Laws B) where
     backs : (n : ℕ) → n ≤ 256 → Back n
     unfolding returned emptied
     backs zero l = record {
-      settings = reads-through B L (reads-apart B L (mask 0) _ 0 refl (reads-less B L M)) (R .settings);
+      settings = reads-through B L (reads-apart B L Mask _ 0 refl (reads-less B L M)) (R .settings);
       slots = reads-self B L s₃ (M .sized);
       stacked = stack-same B L s s₃ (rel-room B L R K) (M .reads free refl (omega arith)) (λ i m. M .reads (idle i) refl m) ∙ R .stack;
     }

@@ -1,62 +1,72 @@
 -- The relation of store and router, which each step of a call keeps: state and memory show settings, places and free list. Assumes nothing.
-use Prim.Native.Nat.{ℕ, _<_, _≤_}
+use Prim.Native.Nat.{ℕ, zero, suc, _<_, _≤_}
 use mathlib.Core.Path.{_≡_, refl, sym, ap, subst, _∙_}
-use mathlib.Core.Bool.{Bool, false, not, _&&_, true≢false}
+use mathlib.Core.Bool.{Bool, true, false, not, true≢false}
 use mathlib.Core.Logic.{_≢_}
 use mathlib.Core.List.{List}
 use mathlib.Core.Option.{Option, none, some}
 use native.Mathlib.Decide.{ℕ-discrete}
 use native.Mathlib.Omega.{arith}
 use lib.ListN.{length}
-use lib.Dec.{leb}
 use Rattle.rules.specs.Account.{Kept}
 use Rattle.rules.specs.Areas.{bits, packet, Store}
-use Rattle.rules.specs.Board.{Board, Field, clock, horizon, latch, free, idle, time, deadline, mask, outgoing, delay, routes}
+use Rattle.rules.specs.Board.{Board, Kind, Clock, Horizon, Latch, Free, Idle, Time, Deadline, Mask, Outgoing, Delay, Routes, Field, clock, horizon, latch, free, idle, time, deadline, mask, outgoing, delay, routes}
 use Rattle.rules.specs.Clock.{cut}
 use Rattle.rules.specs.Demand3.{HeldShown}
 use Rattle.rules.specs.Questions.{stack}
 use Rattle.rules.specs.Whole.{Held, Router, withPlaces, put}
-use Rattle.rules.proofs.BoardLaws.{Laws, kind, Valid}
+use Rattle.rules.proofs.BoardLaws.{Laws, Valid}
 use Rattle.rules.proofs.StateLaws.{Reads, reads-as, stack-same, length-stack}
 use Rattle.rules.proofs.WholeLaws.{put-same, put-other}
 
 -- ---- settings
 
--- The kinds of field that a tick changes before the clock: free count, stack and slots; the others are settings.
-abbrev pub inner : ℕ → Bool
-inner k = leb 3 k && leb k 7
+-- What a tick changes before the clock, free count, stack and slots, and what it leaves: the settings.
+abbrev pub inner : Kind → Bool
+inner Clock = false
+inner Horizon = false
+inner Latch = false
+inner Free = true
+inner Idle = true
+inner Time = true
+inner Deadline = true
+inner Mask = true
+inner Outgoing = false
+inner Delay = false
+inner Routes = false
 
-abbrev pub outer : ℕ → Bool
+abbrev pub outer : Kind → Bool
 outer k = not (inner k)
 
 -- What the settings read, at a clock reading of c bytes.
 abbrev pub shown : ℕ → Router → Field → ℕ
-shown c w clock = cut (bits c) (w .clock)
-shown c w (horizon p) = w .horizon p
-shown c w (latch q) = w .latch q
-shown c w free = 0
-shown c w (idle i) = 0
-shown c w (time i) = 0
-shown c w (deadline i) = 0
-shown c w (mask i) = 0
-shown c w (outgoing i) = w .entry i .identifier
-shown c w (delay i) = w .entry i .delay
-shown c w (routes i) = w .entry i .mask
+shown c w (Clock, i) = cut (bits c) (w .clock)
+shown c w (Horizon, p) = w .horizon p
+shown c w (Latch, q) = w .latch q
+shown c w (Free, i) = 0
+shown c w (Idle, i) = 0
+shown c w (Time, i) = 0
+shown c w (Deadline, i) = 0
+shown c w (Mask, i) = 0
+shown c w (Outgoing, i) = w .entry i .identifier
+shown c w (Delay, i) = w .entry i .delay
+shown c w (Routes, i) = w .entry i .mask
 
 -- Two readings agree on the settings where they do so kind by kind.
 pub on-settings : (σ τ : Field → ℕ) → σ clock ≡ τ clock → ((p : ℕ) → p < 5 → σ (horizon p) ≡ τ (horizon p)) → ((q : ℕ) → q < 4 → σ (latch q) ≡ τ (latch q))
-    → ((i : ℕ) → i < 256 → (σ (outgoing i) ≡ τ (outgoing i)) × (σ (delay i) ≡ τ (delay i)) × (σ (routes i) ≡ τ (routes i))) → (f : Field) → inner (kind f) ≡ false → Valid f → σ f ≡ τ f
-on-settings σ τ t h q n clock e v = t
-on-settings σ τ t h q n (horizon p) e v = h p v
-on-settings σ τ t h q n (latch r) e v = q r v
-on-settings σ τ t h q n free e v = absurd (true≢false e)
-on-settings σ τ t h q n (idle i) e v = absurd (true≢false e)
-on-settings σ τ t h q n (time i) e v = absurd (true≢false e)
-on-settings σ τ t h q n (deadline i) e v = absurd (true≢false e)
-on-settings σ τ t h q n (mask i) e v = absurd (true≢false e)
-on-settings σ τ t h q n (outgoing i) e v = n i v .0
-on-settings σ τ t h q n (delay i) e v = n i v .1
-on-settings σ τ t h q n (routes i) e v = n i v .2
+    → ((i : ℕ) → i < 256 → (σ (outgoing i) ≡ τ (outgoing i)) × (σ (delay i) ≡ τ (delay i)) × (σ (routes i) ≡ τ (routes i))) → (f : Field) → inner (f .0) ≡ false → Valid f → σ f ≡ τ f
+on-settings σ τ t h q n (Clock, zero) e v = t
+on-settings σ τ t h q n (Clock, suc i) e v = absurd (omega arith)
+on-settings σ τ t h q n (Horizon, p) e v = h p v
+on-settings σ τ t h q n (Latch, r) e v = q r v
+on-settings σ τ t h q n (Free, i) e v = absurd (true≢false e)
+on-settings σ τ t h q n (Idle, i) e v = absurd (true≢false e)
+on-settings σ τ t h q n (Time, i) e v = absurd (true≢false e)
+on-settings σ τ t h q n (Deadline, i) e v = absurd (true≢false e)
+on-settings σ τ t h q n (Mask, i) e v = absurd (true≢false e)
+on-settings σ τ t h q n (Outgoing, i) e v = n i v .0
+on-settings σ τ t h q n (Delay, i) e v = n i v .1
+on-settings σ τ t h q n (Routes, i) e v = n i v .2
 
 -- There are 256 places.
 pub kept-room : {f : ℕ → Option Held} {l : List ℕ} → Kept f l → length l ≤ 256

@@ -11,61 +11,74 @@ use lib.Seq.{length-sets, take-at, drop-append-add}
 use lib.Dec.{ltb, eqb}
 use borrow.Author.Tests.{eqb-true, ltb-true, eq-eqb, ne-eqb}
 use Rattle.rules.specs.Areas.{Bytes, value, digits}
-use Rattle.rules.specs.Board.{byTable, Field, clock, horizon, latch, free, idle, time, deadline, mask, outgoing, delay, routes, getAt, putAt}
+use Rattle.rules.specs.Board.{byTable, Kind, Clock, Horizon, Latch, Free, Idle, Time, Deadline, Mask, Outgoing, Delay, Routes, Field, clock, getAt, putAt}
 use Rattle.rules.specs.Indices.{all}
 use Rattle.rules.proofs.Booleans.{and-left, and-right}
-use Rattle.rules.proofs.BoardLaws.{Laws, freshField, kind, index, extent, width, sameField, Valid}
+use Rattle.rules.proofs.BoardLaws.{Laws, freshField, ordinal, extent, width, sameKind, sameField, Valid}
 use Rattle.rules.proofs.IndexLaws.{all-at}
-use Rattle.rules.proofs.AreaLaws.{part-same, part-other, part-lt, length-digits, value-digits}
+use Rattle.rules.proofs.AreaLaws.{sets-comm, sets-sets, part-same, part-other, part-lt, length-digits, value-digits}
+use Rattle.rules.proofs.FieldBytes.{putAt-own}
 
--- The field of a kind and an index.
-abbrev pub field : ℕ → ℕ → Field
-field zero i = clock
-field (suc zero) i = horizon i
-field (suc (suc zero)) i = latch i
-field (suc (suc (suc zero))) i = free
-field (suc (suc (suc (suc zero)))) i = idle i
-field (suc (suc (suc (suc (suc zero))))) i = time i
-field (suc (suc (suc (suc (suc (suc zero)))))) i = deadline i
-field (suc (suc (suc (suc (suc (suc (suc zero))))))) i = mask i
-field (suc (suc (suc (suc (suc (suc (suc (suc zero)))))))) i = outgoing i
-field (suc (suc (suc (suc (suc (suc (suc (suc (suc zero))))))))) i = delay i
-field (suc (suc (suc (suc (suc (suc (suc (suc (suc (suc n)))))))))) i = routes i
+-- ---- tests of every field
 
--- Kind and index make the field, and the kind tells how many there are.
-field-of : (f : Field) → (field (kind f) (index f) ≡ f) × (kind f < 11) × (extent (field (kind f) 0) ≡ extent f)
-field-of clock = (refl, omega arith, refl)
-field-of (horizon p) = (refl, omega arith, refl)
-field-of (latch r) = (refl, omega arith, refl)
-field-of free = (refl, omega arith, refl)
-field-of (idle i) = (refl, omega arith, refl)
-field-of (time i) = (refl, omega arith, refl)
-field-of (deadline i) = (refl, omega arith, refl)
-field-of (mask i) = (refl, omega arith, refl)
-field-of (outgoing i) = (refl, omega arith, refl)
-field-of (delay i) = (refl, omega arith, refl)
-field-of (routes i) = (refl, omega arith, refl)
+-- The kind of a number.
+abbrev pub kindOf : ℕ → Kind
+kindOf zero = Clock
+kindOf (suc zero) = Horizon
+kindOf (suc (suc zero)) = Latch
+kindOf (suc (suc (suc zero))) = Free
+kindOf (suc (suc (suc (suc zero)))) = Idle
+kindOf (suc (suc (suc (suc (suc zero))))) = Time
+kindOf (suc (suc (suc (suc (suc (suc zero)))))) = Deadline
+kindOf (suc (suc (suc (suc (suc (suc (suc zero))))))) = Mask
+kindOf (suc (suc (suc (suc (suc (suc (suc (suc zero)))))))) = Outgoing
+kindOf (suc (suc (suc (suc (suc (suc (suc (suc (suc zero))))))))) = Delay
+kindOf (suc (suc (suc (suc (suc (suc (suc (suc (suc (suc n)))))))))) = Routes
+
+-- The number tells the kind.
+kindOf-ordinal : (k : Kind) → (kindOf (ordinal k) ≡ k) × (ordinal k < 11)
+kindOf-ordinal Clock = (refl, omega arith)
+kindOf-ordinal Horizon = (refl, omega arith)
+kindOf-ordinal Latch = (refl, omega arith)
+kindOf-ordinal Free = (refl, omega arith)
+kindOf-ordinal Idle = (refl, omega arith)
+kindOf-ordinal Time = (refl, omega arith)
+kindOf-ordinal Deadline = (refl, omega arith)
+kindOf-ordinal Mask = (refl, omega arith)
+kindOf-ordinal Outgoing = (refl, omega arith)
+kindOf-ordinal Delay = (refl, omega arith)
+kindOf-ordinal Routes = (refl, omega arith)
 
 -- A test of every field.
 unfoldable pub each : (Field → Bool) → Bool
-each t = all 11 (λ k. all (extent (field k 0)) (λ i. t (field k i)))
+each t = all 11 (λ n. all (extent (kindOf n)) (λ i. t (kindOf n, i)))
 
--- A test of every field holds at each valid one.
+-- It holds at each valid one.
 each-at : (t : Field → Bool) → each t ≡ true → (f : Field) → Valid f → t f ≡ true
 unfolding each
-each-at t e f v =
-    let (e₀, l, q) = field-of f in
-    ap t (sym e₀) ∙ all-at (λ i. t (field (kind f) i)) (extent (field (kind f) 0)) (index f) (all-at (λ k. all (extent (field k 0)) (λ i. t (field k i))) 11 (kind f) e l) (subst (λ (n : ℕ). index f < n) (sym q) v)
+each-at t e (k, i) v =
+    let (q, l) = kindOf-ordinal k in
+    let below : all (extent k) (λ i. t (k, i)) ≡ true = subst (λ (k : Kind). all (extent k) (λ i. t (k, i)) ≡ true) q (all-at (λ n. all (extent (kindOf n)) (λ i. t (kindOf n, i))) 11 (ordinal k) e l) in
+    all-at (λ i. t (k, i)) (extent k) i below v
+
+-- ---- fields told apart
+
+-- Kinds of one number are one.
+pub sameKind-equal : (k l : Kind) → sameKind k l ≡ true → k ≡ l
+sameKind-equal k l e = sym (kindOf-ordinal k .0) ∙ ap kindOf (eqb-true (ordinal k) (ordinal l) e) ∙ kindOf-ordinal l .0
+
+pub sameKind-differ : (k l : Kind) → k ≢ l → sameKind k l ≡ false
+sameKind-differ k l n = ne-eqb (ordinal k) (ordinal l) (λ e. n (sym (kindOf-ordinal k .0) ∙ ap kindOf e ∙ kindOf-ordinal l .0))
 
 -- Fields of one kind and index are one.
-sameField-equal : (f g : Field) → sameField f g ≡ true → f ≡ g
+pub sameField-equal : (f g : Field) → sameField f g ≡ true → f ≡ g
 sameField-equal f g e =
-    let a = eqb-true (kind f) (kind g) (and-left (eqb (kind f) (kind g)) (eqb (index f) (index g)) e) in
-    let b = eqb-true (index f) (index g) (and-right (eqb (kind f) (kind g)) (eqb (index f) (index g)) e) in
-    sym (field-of f .0) ∙ ap₂ field a b ∙ field-of g .0
+    let a = sameKind (f .0) (g .0) in
+    let b = eqb (f .1) (g .1) in
+    ap₂ (λ (k : Kind) (i : ℕ). (k, i)) (sameKind-equal (f .0) (g .0) (and-left a b e)) (eqb-true (f .1) (g .1) (and-right a b e))
 
-sameField-self : (f : Field) → sameField f f ≡ true
-sameField-self f = rw (eq-eqb (kind f) (kind f) refl, eq-eqb (index f) (index f) refl)
+pub sameField-self : (f : Field) → sameField f f ≡ true
+sameField-self f = rw (eq-eqb (ordinal (f .0)) (ordinal (f .0)) refl, eq-eqb (f .1) (f .1) refl)
 
 -- ---- each byte has one owner
 
@@ -118,6 +131,13 @@ module _ (table : Field → ℕ × ℕ) (size : ℕ) (owner : ℕ → Field) whe
             let m = meet f g vf vg k l (let h = length-digits (table f .1) v in omega arith) hl q in
             true≢false (sym (subst (λ (g : Field). sameField f g ≡ true) m (sameField-self f)) ∙ e)))
 
+    -- Stores in two fields commute.
+    putAt-comm : (s : List ℕ) (f : Field) (v : ℕ) (g : Field) (w : ℕ) → Valid f → Valid g → sameField f g ≡ false → putAt table (putAt table s f v) g w ≡ putAt table (putAt table s g w) f v
+    unfolding putAt
+    putAt-comm s f v g w vf vg e = sets-comm (digits (table f .1) v) (digits (table g .1) w) s (table f .0) (table g .0) (λ k l hk hl q.
+        let m = meet f g vf vg k l (let h = length-digits (table f .1) v in omega arith) (let h = length-digits (table g .1) w in omega arith) q in
+        true≢false (sym (subst (λ (g : Field). sameField f g ≡ true) m (sameField-self f)) ∙ e))
+
 -- ---- the fresh state
 
 -- What stands after the first bytes does not depend on them.
@@ -148,7 +168,7 @@ module _ (c size : ℕ) (table : Field → ℕ × ℕ) (rest : List ℕ) (H : Te
   wide-at f v = eqb-true (table f .1) (width c f) (each-at (λ f. eqb (table f .1) (width c f)) (H .wide) f v)
 
   -- Every other field stands after the clock: it shares no byte with it.
-  after-clock : (f : Field) → Valid f → kind f ≢ 0 → c ≤ table f .0
+  after-clock : (f : Field) → Valid f → f .0 ≢ Clock → c ≤ table f .0
   after-clock f v n = go (decLt (table f .0) c)
     where
       go : Dec (table f .0 < c) → c ≤ table f .0
@@ -156,7 +176,7 @@ module _ (c size : ℕ) (table : Field → ℕ × ℕ) (rest : List ℕ) (H : Te
           let h = nonempty table size (H .owner) (H .owners) f v in
           let a = H .first in
           let b = wide-at clock (omega arith) in
-          absurd (n (sym (ap kind (meet table size (H .owner) (H .owners) clock f (omega arith) v (table f .0) 0 (omega arith) h (omega arith)))))
+          absurd (n (sym (ap (λ (f : Field). f .0) (meet table size (H .owner) (H .owners) clock f (omega arith) v (table f .0) 0 (omega arith) h (omega arith)))))
       go (no l) = omega arith
 
   -- The clock's bytes stand first.
@@ -165,22 +185,25 @@ module _ (c size : ℕ) (table : Field → ℕ × ℕ) (rest : List ℕ) (H : Te
   get-clock t = rw (wide-at clock (omega arith), H .first, take-at (digits c t) rest c (length-digits c t)) (value-digits c t (H .some-bytes))
 
   -- A later field reads as it does at the clock 0.
-  get-later : (t : ℕ) (f : Field) → Valid f → kind f ≢ 0 → getAt table (state t) f ≡ freshField t f
+  get-later : (t : ℕ) (f : Field) → Valid f → f .0 ≢ Clock → getAt table (state t) f ≡ freshField t f
   unfolding getAt
   get-later t f v n =
       let l = after-clock f v n in
       let a = length-digits c t in
       ap (λ (l : List ℕ). value (take (table f .1) l)) (drop-past (digits c t) (digits c 0) rest (table f .0) (a ∙ sym (length-digits c 0)) (omega arith))
       ∙ eqb-true (getAt table (state 0) f) (freshField 0 f) (each-at (λ f. eqb (getAt table (state 0) f) (freshField 0 f)) (H .blank) f v)
-      ∙ rw (ne-eqb (kind f) 0 n)
+      ∙ rw (sameKind-differ (f .0) Clock n)
 
   -- The clock, or a later field.
   get-fresh : (t : ℕ) (f : Field) → Valid f → getAt table (state t) f ≡ freshField t f
-  get-fresh t f v = go (ℕ-discrete (kind f) 0)
+  get-fresh t (k, i) v = go (sameKind k Clock) refl
     where
-      go : Dec (kind f ≡ 0) → getAt table (state t) f ≡ freshField t f
-      go (yes e) = subst (λ (f : Field). getAt table (state t) f ≡ freshField t f) (sym (ap (λ (k : ℕ). field k (index f)) e) ∙ field-of f .0) (get-clock t)
-      go (no n) = get-later t f v n
+      go : (b : Bool) → sameKind k Clock ≡ b → getAt table (state t) (k, i) ≡ freshField t (k, i)
+      go true e =
+          let q = sameKind-equal k Clock e in
+          let z : i ≡ 0 = let l : i < extent Clock = subst (λ (k : Kind). i < extent k) q v in omega arith in
+          subst (λ (f : Field). getAt table (state t) f ≡ freshField t f) (sym (ap₂ (λ (k : Kind) (i : ℕ). (k, i)) q z)) (get-clock t)
+      go false e = get-later t (k, i) v (λ q. true≢false (sym (eq-eqb (ordinal k) (ordinal Clock) (ap ordinal q)) ∙ e))
 
   -- A field stands inside the state.
   getAt-lt : (s : List ℕ) (f : Field) → Bytes s → length s ≡ size → Valid f → getAt table s f < 256 ^ width c f
@@ -195,6 +218,9 @@ module _ (c size : ℕ) (table : Field → ℕ × ℕ) (rest : List ℕ) (H : Te
     few-bytes = H .few-bytes;
     length-put = λ s f v. length-sets s (table f .0) (digits (table f .1) v);
     get-put = getAt-putAt table size (H .owner) (H .owners);
+    put-put = λ s f v w. sets-sets (digits (table f .1) v) (digits (table f .1) w) s (table f .0) (length-digits (table f .1) v ∙ sym (length-digits (table f .1) w));
+    put-comm = putAt-comm table size (H .owner) (H .owners);
+    put-own = λ s f v one. putAt-own table s f (wide-at f v ∙ one);
     get-lt = getAt-lt;
     length-fresh = λ t. length-append (digits c t) rest ∙ ap (λ (n : ℕ). n + length rest) (length-digits c t) ∙ H .whole;
     get-fresh = get-fresh;

@@ -5,20 +5,61 @@ use lib.ListN.{take, drop}
 use lib.Seq.{sets}
 use Rattle.rules.specs.Areas.{value, digits}
 
--- The fields of the state: port p's horizon; register r's last byte (place 3 for register 4); the free count n; entry i of the idle-address stack;
--- slot i's logical arrival time, deadline and ports still to serve; connection i's outgoing identifier, delay and mask.
-pub data Field : Type 0 where
-  clock : Field
-  horizon : ℕ → Field
-  latch : ℕ → Field
-  free : Field
-  idle : ℕ → Field
-  time : ℕ → Field
-  deadline : ℕ → Field
-  mask : ℕ → Field
-  outgoing : ℕ → Field
-  delay : ℕ → Field
-  routes : ℕ → Field
+-- The kinds of field in the state.
+pub data Kind : Type 0 where
+  Clock : Kind
+  Horizon : Kind
+  Latch : Kind
+  Free : Kind
+  Idle : Kind
+  Time : Kind
+  Deadline : Kind
+  Mask : Kind
+  Outgoing : Kind
+  Delay : Kind
+  Routes : Kind
+
+-- A field is a kind and an index.
+abbrev pub Field : Type 0
+Field = Kind × ℕ
+
+abbrev pub clock : Field
+clock = (Clock, 0)
+
+-- Port p's horizon.
+abbrev pub horizon : ℕ → Field
+horizon p = (Horizon, p)
+
+-- Register r's last byte, at place 3 for register 4.
+abbrev pub latch : ℕ → Field
+latch r = (Latch, r)
+
+-- The free count n, and entry i of the idle-address stack.
+abbrev pub free : Field
+free = (Free, 0)
+
+abbrev pub idle : ℕ → Field
+idle i = (Idle, i)
+
+-- Slot i's logical arrival time, deadline and ports still to serve.
+abbrev pub time : ℕ → Field
+time i = (Time, i)
+
+abbrev pub deadline : ℕ → Field
+deadline i = (Deadline, i)
+
+abbrev pub mask : ℕ → Field
+mask i = (Mask, i)
+
+-- Connection i's outgoing identifier, delay and mask.
+abbrev pub outgoing : ℕ → Field
+outgoing i = (Outgoing, i)
+
+abbrev pub delay : ℕ → Field
+delay i = (Delay, i)
+
+abbrev pub routes : ℕ → Field
+routes i = (Routes, i)
 
 pub record Board : Type 0 where
   -- The bytes of a clock reading, and of the state.

@@ -1,3 +1,4 @@
+-- `clock::later` meets its contract: the wrapping sum is the sum's remainder by 256. Assumes nothing.
 use Rattle.rules.specs.Areas.{bits, low}
 use Rattle.rules.specs.Clock.{plus}
 use borrow.Author.Needs.{needs}

@@ -1,3 +1,4 @@
+-- `clock::since` meets its contract: the wrapping difference is the remainder by 256. Assumes nothing.
 use Rattle.rules.specs.Areas.{bits, low}
 use Rattle.rules.specs.Clock.{minus}
 use borrow.Author.Needs.{needs}

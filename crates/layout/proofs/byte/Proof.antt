@@ -1,3 +1,4 @@
+-- `layout::byte` meets its contract: a list has 0 past its end. Assumes nothing.
 use lib.ListN.{List·getD-eq-default}
 use mathlib.Core.Path.{sym}
 use borrow.Author.Needs.{needs}

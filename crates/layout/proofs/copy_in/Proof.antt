@@ -1,3 +1,4 @@
+-- `layout::copy_in` meets its contract. The loop's invariant: the first `j` bytes are copied. The measure is what is left of them. Assumes nothing.
 use Rattle.rules.proofs.FieldBytes.{sets-snoc}
 use lib.Seq.{sets, take-length}
 use lib.ListN.{length, length-set, take}

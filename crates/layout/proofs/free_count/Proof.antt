@@ -1,5 +1,8 @@
-use Rattle.rules.proofs.FieldBytes.{get-free}
-use mathlib.Core.Path.{sym}
+-- `layout::free_count` meets its contract: the free count has two bytes, high first. Assumes nothing.
+use Rattle.rules.proofs.FieldBytes.{get-two}
+use Rattle.rules.specs.Board.{free}
+use Rattle.rules.specs.Board8.{table8}
+use mathlib.Core.Path.{refl, sym}
 use native.Mathlib.Omega.{arith}
 use borrow.Author.Needs.{needs}
 use Rattle.layout.proofs.free_count.Statement.{statement}
@@ -24,7 +27,7 @@ add-result : tie.Need-add-result
 add-result c = omega (arith, c .shared-slice-known2 .given 11, c .shared-slice-known2 .given 10)
 
 returns : tie.Need-returns
-returns c = sym (get-free _ (c .before .before .pre))
+returns c = sym (get-two table8 _ free refl (let l = c .before .before .pre in omega arith))
 
 pub free-count-spec : {M : Type 1} → statement M
 free-count-spec =

@@ -1,5 +1,8 @@
+-- `layout::get` meets its contract: a field of one byte is the byte at its place. Assumes nothing.
 use Rattle.layout.proofs.OneByte.{one-byte}
 use Rattle.rules.proofs.FieldBytes.{get-one}
+use Rattle.rules.specs.Board8.{table8}
+use Rattle.layout.specs.Fields.{fieldOf}
 use borrow.Author.Needs.{needs}
 use Rattle.layout.proofs.get.Statement.{statement}
 use Rattle.layout.proofs.get.Tie as tie
@@ -12,7 +15,7 @@ byte-requires c κs = search needs
 
 returns : tie.Need-returns
 returns c = let a = c .before .before .before .args in
-    rw (get-one (a .state .now) _ (one-byte (a .f)), ← c .before .place .ensures) (c .byte .ensures)
+    rw (get-one table8 (a .state .now) (fieldOf (a .f)) (one-byte (a .f)), ← c .before .place .ensures) (c .byte .ensures)
 
 pub get-spec : {M : Type 1} → statement M
 get-spec = tie.close (tie.spec place-requires byte-requires returns)

@@ -1,3 +1,4 @@
+-- `layout::has_port` meets its contract: a shift to the right divides by a power of two. Assumes nothing.
 use Rattle.rules.specs.Areas.{has}
 use borrow.Author.Needs.{needs}
 use Rattle.layout.proofs.has_port.Statement.{statement}

@@ -1,3 +1,4 @@
+-- `layout::place` meets its contract: each variant names the field that the table has at this place. Assumes nothing.
 use borrow.Author.Needs.{needs}
 use Rattle.layout.proofs.place.Statement.{statement}
 use Rattle.layout.proofs.place.Tie as tie

@@ -1,3 +1,4 @@
+-- `layout::put_byte` meets its contract: a store past the end leaves the list. Assumes nothing.
 use lib.Seq.{set-out}
 use mathlib.Core.Path.{sym}
 use borrow.Author.Needs.{needs}

@@ -1,5 +1,8 @@
-use Rattle.rules.proofs.FieldBytes.{put-free}
-use mathlib.Core.Path.{sym}
+-- `layout::put_free` meets its contract: the free count has two bytes, high first. Assumes nothing.
+use Rattle.rules.proofs.FieldBytes.{put-two}
+use Rattle.rules.specs.Board.{free}
+use Rattle.rules.specs.Board8.{table8}
+use mathlib.Core.Path.{refl, sym}
 use borrow.Author.Needs.{needs}
 use Rattle.layout.proofs.put_free.Statement.{statement}
 use Rattle.layout.proofs.put_free.Tie as tie
@@ -20,7 +23,7 @@ same-length : tie.Need-same-length
 same-length c = search needs
 
 returns : tie.Need-returns
-returns c = sym (put-free _ _)
+returns c = sym (put-two table8 _ free refl _)
 
 pub put-free-spec : {M : Type 1} → statement M
 put-free-spec =
