@@ -1017,37 +1017,24 @@ static void test_offsets(void)
     }
 }
 
-/* ---- The cases of document 01 ---- */
+/* ---- One connection: choices of its port, and a full memory ---- */
 
-#define CASE_CLOCK 240
-#define CASE_PORT 1
-#define CASE_CONNECTION 5
-#define CASE_OUT 33
+#define ONE_CLOCK 240
+#define ONE_PORT 1
+#define ONE_CONNECTION 5
+#define ONE_OUT 33
 
-/* A fresh router at the cases' clock with one connection, and one arrival of this time. */
-static void start_case(unsigned time, unsigned d, unsigned horizon)
+/* A fresh router with the connection open, and one arrival. */
+static void start_one(int offset, unsigned d, unsigned mask, unsigned horizon)
 {
-    fresh(CASE_CLOCK);
-    open_connection(CASE_CONNECTION, CASE_OUT, d, 1u << CASE_PORT);
-    set_horizons(1u << CASE_PORT, horizon);
-    put_arrival(0, CASE_CONNECTION, (int)time - CASE_CLOCK);
+    fresh(ONE_CLOCK);
+    open_connection(ONE_CONNECTION, ONE_OUT, d, mask);
+    set_horizons(mask, horizon);
+    put_arrival(0, ONE_CONNECTION, offset);
 }
 
-static void one_case(unsigned time, unsigned d, unsigned horizon, unsigned number, unsigned code)
-{
-    start_case(time, d, horizon);
-    expect("tick", tick(1, 0), ROUTER_ACCEPTED);
-    expect("arrival", answers[ROUTER_ANSWERS_ARRIVALS], number);
-    expect("port code", answers[ROUTER_ANSWERS_PORTS + CASE_PORT], code);
-    if (code == ROUTER_PORT_ON_TIME || code == ROUTER_PORT_EARLY) {
-        expect("outgoing identifier", area[OUTGOING][ROUTER_PACKET_LEN * CASE_PORT], CASE_OUT);
-        expect("outgoing time", area[OUTGOING][ROUTER_PACKET_LEN * CASE_PORT + ROUTER_PACKET_TIME],
-               (time + d) % 256);
-    }
-}
-
-/* Stores packets in slots 9 and 2 and lets the port choose; best is the slot that wins. */
-static void two_slots(int offset_9, unsigned d_9, int offset_2, unsigned d_2, unsigned best)
+/* Stores packets in slots 9 and 2; that in slot 9 has the smaller key, and is sent. */
+static void higher_slot(int offset_9, unsigned d_9, int offset_2, unsigned d_2)
 {
     make_sound(0);
     memset(state + ROUTER_STATE_HORIZONS, ROUTER_HORIZON_MAX, ROUTER_PORTS);
@@ -1056,42 +1043,19 @@ static void two_slots(int offset_9, unsigned d_9, int offset_2, unsigned d_2, un
     set_free_count(ROUTER_SLOTS - 2);
     state[ROUTER_STATE_STACK + 2] = 254;
     state[ROUTER_STATE_STACK + 9] = 255;
-    put_stored(9, offset_9, d_9, 1u << CASE_PORT);
-    put_stored(2, offset_2, d_2, 1u << CASE_PORT);
+    put_stored(9, offset_9, d_9, 1u << ONE_PORT);
+    put_stored(2, offset_2, d_2, 1u << ONE_PORT);
     expect("tick", tick(0, 0), ROUTER_ACCEPTED);
-    expect("slot sent", slot_at(state, best)[ROUTER_SLOT_MASK], 0);
+    expect("slot sent", slot_at(state, 9)[ROUTER_SLOT_MASK], 0);
 }
 
-static void test_cases(void)
+static void test_choices(void)
 {
-    one_case(80, 40, 96, ROUTER_ARRIVAL_STORED, ROUTER_PORT_EARLY);
-    one_case(80, 40, 95, ROUTER_ARRIVAL_STORED, ROUTER_PORT_IDLE);
-    one_case(210, 40, 0, ROUTER_ARRIVAL_STORED, ROUTER_PORT_ON_TIME);
-    one_case(200, 40, 0, ROUTER_ARRIVAL_STORED, ROUTER_PORT_ON_TIME);
-    one_case(199, 40, 0, ROUTER_ARRIVAL_LATE, ROUTER_PORT_IDLE);
-    one_case(111, 40, 127, ROUTER_ARRIVAL_STORED, ROUTER_PORT_EARLY);
-    one_case(111, 40, 126, ROUTER_ARRIVAL_STORED, ROUTER_PORT_IDLE);
-    one_case(112, 40, 127, ROUTER_ARRIVAL_LATE, ROUTER_PORT_IDLE);
-    one_case(112, 127, 127, ROUTER_ARRIVAL_LATE, ROUTER_PORT_IDLE);
-    one_case(113, 127, 0, ROUTER_ARRIVAL_STORED, ROUTER_PORT_ON_TIME);
-    one_case(240, 0, 0, ROUTER_ARRIVAL_STORED, ROUTER_PORT_ON_TIME);
-    two_slots(-3, 10, -1, 8, 2);
-    two_slots(5, 10, 5, 90, 2);
-    two_slots(-3, 10, 0, 8, 9);
-    two_slots(4, 100, 5, 0, 9);
-
-    /* Two packets due now at one port: one is sent, the other withdrawn. */
-    start_case(240, 0, 0);
-    put_arrival(3, CASE_CONNECTION, 0);
-    expect("tick", tick(1 | 1u << 3, 0), ROUTER_ACCEPTED);
-    expect("port code", answers[ROUTER_ANSWERS_PORTS + CASE_PORT], ROUTER_PORT_ON_TIME);
-    expect("withdrawn", withdrawn_at(answers, CASE_PORT), 1);
-    expect("free count", free_count(state), ROUTER_SLOTS);
-    expect("top of the stack", state[ROUTER_STATE_STACK + 255], 1);
+    higher_slot(-3, 10, 0, 8);
+    higher_slot(4, 100, 5, 0);
 
     /* Mask 31: five ports send in one tick, and the slot is next to be taken. */
-    start_case(240, 40, 0);
-    open_connection(CASE_CONNECTION, CASE_OUT, 40, ROUTER_MASK_MAX);
+    start_one(0, 40, ROUTER_MASK_MAX, 0);
     expect("tick", tick(1, 0), ROUTER_ACCEPTED);
     for (unsigned p = 0; p < ROUTER_PORTS; p++)
         expect("port code", answers[ROUTER_ANSWERS_PORTS + p], ROUTER_PORT_ON_TIME);
@@ -1099,15 +1063,16 @@ static void test_cases(void)
     expect("top of the stack", state[ROUTER_STATE_STACK + 255], 0);
 
     /* Best-effort traffic goes before an early packet within the horizon, and not before one on time. */
-    start_case(241, 40, 127);
+    start_one(1, 40, 1u << ONE_PORT, ROUTER_HORIZON_MAX);
     expect("tick", tick(1, ROUTER_MASK_MAX), ROUTER_ACCEPTED);
-    expect("port code", answers[ROUTER_ANSWERS_PORTS + CASE_PORT], ROUTER_PORT_BEST_EFFORT);
+    expect("port code", answers[ROUTER_ANSWERS_PORTS + ONE_PORT], ROUTER_PORT_BEST_EFFORT);
 
     /* The stored packet keeps its d when its entry changes. */
-    open_connection(CASE_CONNECTION, CASE_OUT, 3, 1);
+    open_connection(ONE_CONNECTION, ONE_OUT, 3, 1);
     expect("tick", tick(0, ROUTER_MASK_MAX), ROUTER_ACCEPTED);
-    expect("port code", answers[ROUTER_ANSWERS_PORTS + CASE_PORT], ROUTER_PORT_ON_TIME);
-    expect("outgoing time", area[OUTGOING][ROUTER_PACKET_LEN * CASE_PORT + ROUTER_PACKET_TIME], 241 + 40 - 256);
+    expect("port code", answers[ROUTER_ANSWERS_PORTS + ONE_PORT], ROUTER_PORT_ON_TIME);
+    expect("outgoing time", area[OUTGOING][ROUTER_PACKET_LEN * ONE_PORT + ROUTER_PACKET_TIME],
+           (uint8_t)(ONE_CLOCK + 1 + 40));
 }
 
 /* 256 stored: a packet that passes 6 and 7 gets 8, though the tick frees a slot. */
@@ -1117,24 +1082,24 @@ static void test_full(void)
         unsigned stored = 0;
 
         fresh(round);
-        open_connection(CASE_CONNECTION, CASE_OUT, round % 128, 1u << CASE_PORT);
+        open_connection(ONE_CONNECTION, ONE_OUT, round % 128, 1u << ONE_PORT);
         while (stored < ROUTER_SLOTS) {
             for (unsigned p = 0; p < ROUTER_PORTS; p++)
-                put_arrival(p, CASE_CONNECTION, 127);
+                put_arrival(p, ONE_CONNECTION, 127);
             expect("tick", tick(ROUTER_MASK_MAX, 0), ROUTER_ACCEPTED);
             for (unsigned p = 0; p < ROUTER_PORTS; p++)
                 expect("arrival", answers[ROUTER_ANSWERS_ARRIVALS + p],
                        stored++ < ROUTER_SLOTS ? ROUTER_ARRIVAL_STORED : ROUTER_ARRIVAL_FULL);
         }
-        put_arrival(1, CASE_CONNECTION + 1, 0);
-        put_arrival(2, CASE_CONNECTION, -128);
+        put_arrival(1, ONE_CONNECTION + 1, 0);
+        put_arrival(2, ONE_CONNECTION, -128);
         do {
-            put_arrival(4, CASE_CONNECTION, 0);
+            put_arrival(4, ONE_CONNECTION, 0);
             expect("tick", tick(1 << 1 | 1 << 2 | 1 << 4, 0), ROUTER_ACCEPTED);
             expect("arrival", answers[ROUTER_ANSWERS_ARRIVALS + 1], ROUTER_ARRIVAL_CLOSED);
             expect("arrival", answers[ROUTER_ANSWERS_ARRIVALS + 4], ROUTER_ARRIVAL_FULL);
-        } while (answers[ROUTER_ANSWERS_PORTS + CASE_PORT] != ROUTER_PORT_ON_TIME);
-        put_arrival(4, CASE_CONNECTION, 0);
+        } while (answers[ROUTER_ANSWERS_PORTS + ONE_PORT] != ROUTER_PORT_ON_TIME);
+        put_arrival(4, ONE_CONNECTION, 0);
         expect("tick", tick(1 << 4, 0), ROUTER_ACCEPTED);
         expect("arrival", answers[ROUTER_ANSWERS_ARRIVALS + 4], ROUTER_ARRIVAL_STORED);
     }
@@ -1525,7 +1490,7 @@ int main(int argc, char **argv)
     section("soundness: each rule broken alone", test_soundness);
     section("soundness: bytes that no rule names", test_free_bytes);
     section("every offset and every d", test_offsets);
-    section("the cases of document 01", test_cases);
+    section("choices of a port", test_choices);
     section("256 stored", test_full);
     section("random calls from a fresh router", test_evolving);
     section("random calls from random sound states", test_made);

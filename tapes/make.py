@@ -1,8 +1,7 @@
 #!/usr/bin/env python3
-"""make.py shipped [FOLDER]: writes the tapes of this folder, NAME.tape, and what second.py says of each, NAME.expected.
+"""make.py shipped FOLDER: writes the tapes of this folder, NAME.tape, into another.
 make.py long|numbers|far N: writes a tape of N records to standard output."""
 import os, random, sys
-import second
 
 BLOCK = 1024    # records that the program reads at once
 
@@ -105,28 +104,27 @@ def blocks(n=2100):
     return chance(1, n) + b"A"
 
 def far(n):
-    """A million records by chance, and a rest: the last of each block is an arrival, so that one waits across each boundary. Ticks are rare until shortly before 2^20, to save second.py time."""
-    t = bytearray(chance(n, n, 2 ** 20 - 2 * BLOCK))
+    """A million records by chance, and a rest: the last of each block is an arrival, so that one waits across each boundary."""
+    t = bytearray(chance(n, n))
     for k in range(BLOCK, n + 1, BLOCK):
         t[24 * (k - 1):24 * k] = arrival(k // BLOCK % 5, 255, 0)
     return bytes(t) + b"T" * 13
 
-def chance(seed, n, rare=0):
-    """n records by chance, with fewer ticks up to record `rare`."""
+def chance(seed, n):
+    """n records by chance."""
     r, t, clock = random.Random(seed), b"", 0
     parts = [connect(i, r.randrange(256), r.randrange(128), r.randrange(32)) for i in range(16)] + [horizon(r.randrange(32), r.randrange(128)) for _ in range(4)]
     t = b"".join(parts)
     out, count = [t], len(t) // 24
     while count < n:
-        ticks = 1 if count < rare else 7
-        k = r.randrange(13 + ticks)
+        k = r.randrange(20)
         if k < 11:
             out.append(arrival(r.randrange(5), r.randrange(18), clock + r.randrange(-140, 140), bytes(r.randrange(256) for _ in range(4))))
-        elif k < 11 + ticks:
+        elif k < 18:
             best = r.choice((0, 0, 0, 31, r.randrange(34)))
             out.append(tick(best))
             clock += best < 32
-        elif k == 11 + ticks:
+        elif k == 18:
             out.append(control(r.randrange(7), r.randrange(140)))
         else:
             out.append(bytes([r.choice((0x41, 0x43, 0x54, r.randrange(256))), r.randrange(6), r.randrange(2), r.randrange(2)]) + bytes(20))
@@ -138,16 +136,13 @@ MADE = {"long": lambda n: chance(n, n), "numbers": lambda n: record(0) * n, "far
 
 def ship(folder):
     for make in TAPES:
-        path, tape = os.path.join(folder, make.__name__.replace("_", "-")), make()
-        with open(path + ".tape", "wb") as f:
-            f.write(tape)
-        with open(path + ".expected", "w") as f:
-            f.writelines(second.lines(tape))
+        with open(os.path.join(folder, make.__name__.replace("_", "-") + ".tape"), "wb") as f:
+            f.write(make())
 
 if __name__ == "__main__":
     what, *words = sys.argv[1:] or ["?"]
-    if what == "shipped" and len(words) < 2:
-        ship(words[0] if words else os.path.dirname(os.path.abspath(__file__)))
+    if what == "shipped" and len(words) == 1:
+        ship(words[0])
     elif what in MADE and len(words) == 1:
         sys.stdout.buffer.write(MADE[what](int(words[0])))
     else:

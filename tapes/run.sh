@@ -1,30 +1,45 @@
 #!/bin/sh
-# run.sh - compares what the program `tape` prints with what second.py says, on the tapes of this folder and on long
-# ones made here, and sees what it does where it can't write or read.
-# usage: run.sh [PROGRAM]   (without one, target/bin/tape, which rt proves and builds); python3 is needed.
+# run.sh - compares what the program `tape` prints with what the second implementation does, on the tapes of this folder
+# and on long ones made here, and sees what it does where it can't write or read.
+# usage: run.sh [PROGRAM] [write]   (without a program, target/bin/tape, which rt proves and builds)
+# write: first writes the tapes of this folder anew, and what is expected of them. Needs gcc and python3.
 # Ends with a line "tapes: N passed, M failed"; nonzero exit on any failure.
 set -u
 here=$(cd "$(dirname "$0")" && pwd)
 suite=tapes
 . "$here/../host/steps.sh"
-export PYTHONDONTWRITEBYTECODE=1
-command -v python3 > /dev/null || { echo "tapes: there is no python3, and nothing to compare with" >&2; exit 1; }
-if [ $# -ge 1 ]; then
-    program=$1
-else
+program=
+write=no
+for word; do
+    case $word in
+    write) write=yes ;;
+    *) program=$word ;;
+    esac
+done
+[ $# -le 2 ] || { echo "usage: run.sh [PROGRAM] [write]" >&2; exit 1; }
+for command in gcc python3; do
+    command -v $command > /dev/null || { echo "tapes: there is no $command, and nothing to compare with" >&2; exit 1; }
+done
+if [ -z "$program" ]; then
     (cd "$here/.." && rt check tape) > "$build/rt.out" 2>&1 || { cat "$build/rt.out"; exit 1; }
     program=$here/../target/bin/tape
 fi
 [ -x "$program" ] || { echo "tapes: there is no program $program" >&2; exit 1; }
+gcc -std=c99 -Wall -Wextra -Wpedantic -Werror -O2 -I"$here/../include" -I"$here/../host" \
+    "$here/second.c" "$here/../host/whole.c" -o "$build/second" || exit 1
 
 tape() {
     timeout 60 "$program"
 }
 
-# The files of this folder are what make.py and second.py make, no file more and none less.
+# The files of this folder are the tapes of make.py and what second.c says of them, no file more and none less.
 shipped() {
-    mkdir "$build/shipped" && python3 "$here/make.py" shipped "$build/shipped" &&
-        diff -rq -x '*.py' -x '*.sh' -x '*.md' -x __pycache__ "$here" "$build/shipped"
+    mkdir "$build/shipped" && python3 "$here/make.py" shipped "$build/shipped" || return 1
+    for file in "$build/shipped"/*.tape; do
+        "$build/second" < "$file" > "${file%.tape}.expected" || return 1
+    done
+    [ $write = no ] || cp "$build/shipped"/* "$here"
+    diff -rq -x '*.py' -x '*.c' -x '*.sh' -x '*.md' "$here" "$build/shipped"
 }
 
 # quiet STATUS EXPECTED: the program ended well, said nothing on standard error, and printed what is expected.
@@ -47,7 +62,7 @@ prints_from_pipe() { # TAPE EXPECTED
 made() {
     python3 "$here/make.py" "$1" "$2" > "$build/tape" &&
         test "$(wc -c < "$build/tape")" -eq $((24 * $2 + $3)) &&
-        python3 "$here/second.py" < "$build/tape" > "$build/expected" &&
+        "$build/second" < "$build/tape" > "$build/expected" &&
         test -s "$build/expected" && prints "$build/tape" "$build/expected"
 }
 
@@ -90,15 +105,15 @@ folder_as_input() {
     says_so $? && test ! -s "$build/found"
 }
 
-step "the shipped tapes are those of make.py, and second.py says what is expected of them" shipped
+step "the shipped tapes are those of make.py, and second.c says what is expected of them" shipped
 for file in "$here"/*.tape; do
     name=$(basename "$file" .tape)
     step "$name" prints "$file" "$here/$name.expected"
     step "$name, through a pipe" prints_from_pipe "$file" "$here/$name.expected"
 done
 example=$here/../crates/tape
-python3 "$here/second.py" < "$example/stdin" > "$build/expected"
-step "second.py on the worked example of document 01" test $? -eq 0
+"$build/second" < "$example/stdin" > "$build/expected"
+step "second.c on the worked example of document 01" test $? -eq 0
 step "its lines are those of document 01" cmp "$example/stdout" "$build/expected"
 step "1,000,003 refused records: numbers of seven digits" made numbers 1000003 0
 for records in 3000 3001 3002 3003 3004; do
