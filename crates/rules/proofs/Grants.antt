@@ -9,9 +9,11 @@ use lib.IntN.{ℤ, pos, _-ℤ_}
 use lib.Signed.{leZ, ltZ}
 use Rattle.rules.specs.Areas.{has, Grant, nobody, bestEffort, onTime, early}
 use Rattle.rules.specs.Indices.{least}
+use Rattle.rules.specs.Order.{by}
 use Rattle.rules.specs.Whole.{Packet, Held, Router, toServe, filter, byDeadline, byTime, granted, grant}
 use Rattle.rules.proofs.Booleans.{some-inj, none-some, is-true, true-is, false-is}
-use Rattle.rules.proofs.IndexLaws.{least-in, least-beats}
+use Rattle.rules.proofs.IndexLaws.{least-in}
+use Rattle.rules.proofs.OrderLaws.{strict-wholes, strict-by, least-beats}
 use Rattle.rules.proofs.Integers.{orders, diff-nat, not-lt}
 
 -- What a grant of port p at the router r rests on.
@@ -35,17 +37,6 @@ filter-some t (some y) x e = go (t y) refl e
 filter-in : (t : Packet → Bool) (v : Option Packet) (x : Packet) → v ≡ some x → t x ≡ true → filter t v ≡ some x
 unfolding filter
 filter-in t v x e q = ap (filter t) e ∙ ap (λ (b : Bool). cond b (some x) none) q
-
--- ---- the two orders
-
--- An order by a whole number is irreflexive, and nothing below the lesser is below the greater.
-module _ (key : Packet → ℤ) where
-  key-irrefl : (x : Packet) → ltZ (key x) (key x) ≡ false
-  key-irrefl x = false-is (ltZ (key x) (key x)) (λ h. omega (arith, orders))
-
-  key-below : (x y z : Packet) → ltZ (key x) (key y) ≡ false → ltZ (key z) (key y) ≡ true → ltZ (key x) (key z) ≡ false
-  key-below x y z e q = false-is (ltZ (key x) (key z)) (λ h.
-      let a = not-lt (key x) (key y) e in let b = is-true (ltZ (key z) (key y)) q in omega (arith, orders))
 
 -- ---- the grant of a port, from the packets that wait for it
 
@@ -89,9 +80,9 @@ module _ (r : Router) (b p : ℕ) where
 
   -- A waiting packet whose time has come makes the port send on time one of no later deadline.
   pub grant-on-time : (i : ℕ) (x : Packet) → i < 256 → toServe (r .place i) p ≡ some x → T (leZ (x .time) (r .clock)) → (j : ℕ) × (y : Packet) × (grant r b p ≡ onTime (j, y)) × T (leZ (y .deadline) (x .deadline))
-  unfolding grant granted byDeadline
+  unfolding grant granted by
   grant-on-time i x l e h =
-      let (j, y, q, n) = least-beats byDeadline (key-irrefl (λ x. x .deadline)) (key-below (λ x. x .deadline)) readyAt 256 i x l (filter-in (λ x. leZ (x .time) (r .clock)) (toServe (r .place i) p) x e (true-is (leZ (x .time) (r .clock)) h)) in
+      let (j, y, q, n) = least-beats (strict-by (λ x. x .deadline) strict-wholes) readyAt 256 i x l (filter-in (λ x. leZ (x .time) (r .clock)) (toServe (r .place i) p) x e (true-is (leZ (x .time) (r .clock)) h)) in
       (j, y, ap (λ v. granted v (has b p) ahead (r .clock) (r .horizon p)) q, not-lt (x .deadline) (y .deadline) n)
 
   -- Best-effort has the port only where it waits.
@@ -128,9 +119,9 @@ module _ (r : Router) (b p : ℕ) where
 
     -- Else a packet within the horizon makes it send early one of no later time.
     pub grant-early : has b p ≡ false → (i : ℕ) (x : Packet) → i < 256 → toServe (r .place i) p ≡ some x → T (leZ (x .time -ℤ r .clock) (pos (r .horizon p))) → (j : ℕ) × (y : Packet) × (grant r b p ≡ early (j, y)) × T (leZ (y .time) (x .time))
-    unfolding grant granted byTime
+    unfolding grant granted by
     grant-early f i x l e h =
-        let (j, y, q, n) = least-beats byTime (key-irrefl (λ x. x .time)) (key-below (λ x. x .time)) earlyAt 256 i x l (filter-in (λ x. ltZ (r .clock) (x .time)) (toServe (r .place i) p) x e (true-is (ltZ (r .clock) (x .time)) (none-ready i x l e))) in
+        let (j, y, q, n) = least-beats (strict-by (λ x. x .time) strict-wholes) earlyAt 256 i x l (filter-in (λ x. ltZ (r .clock) (x .time)) (toServe (r .place i) p) x e (true-is (ltZ (r .clock) (x .time)) (none-ready i x l e))) in
         let le = not-lt (x .time) (y .time) n in
         let near = true-is (leZ (y .time -ℤ r .clock) (pos (r .horizon p))) (omega (arith, orders, diff-nat (x .time) (r .clock), diff-nat (y .time) (r .clock))) in
         (j, y, ap₂ (λ v t. granted v t ahead (r .clock) (r .horizon p)) not-ready f ∙ ap (λ v. granted none false v (r .clock) (r .horizon p)) q ∙ ap (λ (t : Bool). cond t (early (j, y)) nobody) near, le)

@@ -1,4 +1,5 @@
 pub mod Booleans
+pub mod OrderLaws
 pub mod IndexLaws
 pub mod Masks
 pub mod ClockLaws

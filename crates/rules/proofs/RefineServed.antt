@@ -1,7 +1,7 @@
 -- Steps 2 and 3: both routers grant each port to the same, and serving keeps the relation. Assumes nothing.
 use Prim.Native.Nat.{ℕ, zero, suc, _<_, _≤_}
 use mathlib.Core.Path.{_≡_, refl, sym, ap, ap₂, subst, _∙_}
-use mathlib.Core.Bool.{Bool, true, false, cond, _&&_}
+use mathlib.Core.Bool.{Bool, true, false, cond, not, Bool·not-not}
 use mathlib.Core.List.{List}
 use mathlib.Core.Option.{Option, none, some}
 use native.Mathlib.Omega.{arith}
@@ -15,13 +15,17 @@ use Rattle.rules.specs.Board.{Board, clock, horizon, free, idle, time, d
 use Rattle.rules.specs.Clock.{cut, minus, offset}
 use Rattle.rules.specs.Demand3.{HeldShown}
 use Rattle.rules.specs.Indices.{least}
-use Rattle.rules.specs.Tick.{onTimeKey, earlyKey}
-use Rattle.rules.specs.Whole.{Packet, Held, Router, TickCall, withPlaces, toServe, filter, byDeadline, byTime, lose, packetBytes}
+use Rattle.rules.specs.Order.{by}
+use Rattle.rules.specs.Tick.{isEarly, slotKey, candidate}
+use Rattle.rules.specs.Whole.{Packet, Held, Router, TickCall, withPlaces, toServe, filter, lose, packetBytes}
 use Rattle.rules.proofs.BoardLaws.{Laws, sameField}
 use Rattle.rules.specs.Tick as Tick
 use Rattle.rules.specs.Whole as Whole
 use Rattle.rules.proofs.IndexLaws.{Keys, Least, least-same}
-use Rattle.rules.proofs.Integers.{diff-le, diff-gt, diff-lt}
+use Rattle.rules.proofs.Booleans.{is-true}
+use Rattle.rules.proofs.Integers.{diff-gt, diff-lt}
+use Rattle.rules.proofs.Offsets.{above}
+use Rattle.rules.proofs.OrderLaws.{sorted, first, least-sorts}
 use Rattle.rules.proofs.Masks.{has-zero}
 use Rattle.rules.proofs.WholeLaws.{AllHeld}
 use Rattle.rules.proofs.Grants.{Rests, grant-rests, toServe-held}
@@ -65,57 +69,68 @@ module _ (B : Board) (L : Laws B) where
 
     -- ---- the keys are in one order
 
-    -- A key is the offset of a packet's deadline, or of its time, at the clock.
-    abbrev Key : (Packet → ℤ) → ℕ → Packet → Type 0
-    Key of a x = pos a ≡ of x -ℤ t
+    -- Early packets have their times as keys, on-time ones their deadlines.
+    abbrev keyOf : Bool → Packet → ℤ
+    keyOf e x = cond e (x .time) (x .deadline)
 
-    abbrev less : (Packet → ℤ) → Packet → Packet → Bool
-    less of x y = ltZ (of x) (of y)
+    -- A slot's key is its packet's less the clock.
+    abbrev IsKey : Bool → ℕ → Packet → Type 0
+    IsKey e a x = pos a ≡ keyOf e x -ℤ t
 
-    key-order : (of : Packet → ℤ) (a a′ : ℕ) (x x′ : Packet) → Key of a x → Key of a′ x′ → ltb a a′ ≡ less of x x′
-    key-order of a a′ x x′ e q = ap₂ ltZ e q ∙ diff-lt t (of x) (of x′)
+    key-order : (e : Bool) (a a′ : ℕ) (x x′ : Packet) → IsKey e a x → IsKey e a′ x′ → ltb a a′ ≡ by (keyOf e) ltZ x x′
+    unfolding by
+    key-order e a a′ x x′ k k′ = ap₂ ltZ k k′ ∙ diff-lt t (keyOf e x) (keyOf e x′)
 
-    abbrev Leasts : (Packet → ℤ) → Option (ℕ × ℕ) → Option (ℕ × Packet) → Type 0
-    Leasts of = Least ltb (less of) (Key of) (key-order of)
+    abbrev Leasts : Bool → Option (ℕ × ℕ) → Option (ℕ × Packet) → Type 0
+    Leasts e = Least ltb (by (keyOf e) ltZ) (IsKey e) (key-order e)
 
-    -- Slots have a key where the port is left and b holds, packets where they pass the test: the least are at one index if each slot's are those of its packet.
-    leasts : (of : Packet → ℤ) (test : Packet → Bool) (b : ℕ → Bool) (n : ℕ → ℕ) → ((i : ℕ) → i < 256 → (h : Held) → w .place i ≡ some h → HeldShown B r i h → (b i ≡ test (h .packet)) × (T (test (h .packet)) → Key of (n i) (h .packet)))
-        → Leasts of (least ltb (λ i. cond (has (get s (mask i)) p && b i) (some (n i)) none) 256) (least (less of) (λ i. filter test (toServe (w .place i) p)) 256)
-    unfolding filter toServe
-    leasts of test b n f = least-same ltb (less of) (Key of) (key-order of) (λ i. cond (has (get s (mask i)) p && b i) (some (n i)) none) (λ i. filter test (toServe (w .place i) p)) 256 (λ i l. go i (w .place i) (R .place i l) (f i l))
+    -- The packets of a sort.
+    abbrev ofSort : Bool → Packet → Bool
+    ofSort e x = cond e (ltZ t (x .time)) (leZ (x .time) t)
+
+    -- A slot that holds a packet is early where the packet is, and its key is the packet's.
+    slot-early : (i : ℕ) → i < 256 → (h : Held) → w .place i ≡ some h → HeldShown B r i h → isEarly B s i ≡ ltZ t (h .packet .time)
+    slot-early i l h e H = rw (H .time, clock-same, window-offset c t (h .packet) (F i l h e .window)) (diff-gt (h .packet .time) t)
+
+    slot-key : (i : ℕ) → i < 256 → (h : Held) → w .place i ≡ some h → HeldShown B r i h → (e : Bool) → T (ofSort e (h .packet)) → IsKey e (minus (bits c) (cond e (get s (time i)) (get s (deadline i))) (get s clock)) (h .packet)
+    slot-key i l h e H true z = rw (H .time, clock-same) (window-early c t (h .packet) (F i l h e .window) z)
+    slot-key i l h e H false z = rw (H .deadline, clock-same) (window-on-time c t (h .packet) (F i l h e .window) z)
+
+    -- So the candidates of a sort are the slots of its packets, with keys in one order.
+    sort-keys : (e : Bool) (i : ℕ) → i < 256 → Keys ltb (by (keyOf e) ltZ) (IsKey e) (key-order e) (sorted ltb e (candidate B s p i)) (filter (ofSort e) (toServe (w .place i) p))
+    unfolding candidate slotKey sorted filter toServe
+    sort-keys e i l = go (w .place i) refl (R .place i l)
       where
-        at : (i : ℕ) (h : Held) (a d : Bool) → test (h .packet) ≡ d → (T d → Key of (n i) (h .packet)) → Keys ltb (less of) (Key of) (key-order of) (cond (a && d) (some (n i)) none) (filter test (cond a (some (h .packet)) none))
-        at i h true true e g = rw e (g tt)
-        at i h true false e g = rw e tt
-        at i h false d e g = tt
+        n : Bool → ℕ
+        n e = minus (bits c) (cond e (get s (time i)) (get s (deadline i))) (get s clock)
 
-        go : (i : ℕ) (v : Option Held) → SlotShows B L r i v → ((h : Held) → v ≡ some h → HeldShown B r i h → (b i ≡ test (h .packet)) × (T (test (h .packet)) → Key of (n i) (h .packet)))
-            → Keys ltb (less of) (Key of) (key-order of) (cond (has (get s (mask i)) p && b i) (some (n i)) none) (filter test (toServe v p))
-        go i none h f = rw (h, has-zero p hp) tt
-        go i (some h) H f = let (q, g) = f h refl H in rw (H .left, q) (at i h (has (h .left) p) (test (h .packet)) refl g)
+        not-early : (x : Packet) (d : Bool) → ltZ t (x .time) ≡ d → leZ (x .time) t ≡ not d
+        not-early x d q = sym (Bool·not-not (leZ (x .time) t)) ∙ ap not (sym (above t (x .time)) ∙ q)
 
-    -- An on-time slot's key is its deadline less the clock.
-    on-time-least : Leasts (λ x. x .deadline) (least ltb (onTimeKey B s p) 256) (least byDeadline (λ i. filter (λ x. leZ (x .time) t) (toServe (w .place i) p)) 256)
-    unfolding onTimeKey byDeadline
-    on-time-least = leasts (λ x. x .deadline) (λ x. leZ (x .time) t) (λ i. leZ (offset (bits c) (get s (time i)) (get s clock)) (pos 0)) (λ i. minus (bits c) (get s (deadline i)) (get s clock)) (λ i m h e H.
-        let q = F i m h e .window in
-        (rw (H .time, clock-same, window-offset c t (h .packet) q) (diff-le (h .packet .time) t), λ z. rw (H .deadline, clock-same) (window-on-time c t (h .packet) q z)))
+        at : (x : Packet) (a d e : Bool) → ltZ t (x .time) ≡ d → ((e : Bool) → T (ofSort e x) → IsKey e (n e) x)
+            → Keys ltb (by (keyOf e) ltZ) (IsKey e) (key-order e) (sorted ltb e (cond a (some (record { early = d; key = n d })) none)) (filter (ofSort e) (cond a (some x) none))
+        at x false d e q f = tt
+        at x true true true q f = rw q (f true (is-true (ltZ t (x .time)) q))
+        at x true true false q f = rw (not-early x true q) tt
+        at x true false true q f = rw q tt
+        at x true false false q f = rw (not-early x false q) (f false (is-true (leZ (x .time) t) (not-early x false q)))
 
-    -- An early slot's key is its time less the clock.
-    early-least : Leasts (λ x. x .time) (least ltb (earlyKey B s p) 256) (least byTime (λ i. filter (λ x. ltZ t (x .time)) (toServe (w .place i) p)) 256)
-    unfolding earlyKey byTime
-    early-least = leasts (λ x. x .time) (λ x. ltZ t (x .time)) (λ i. ltZ (pos 0) (offset (bits c) (get s (time i)) (get s clock))) (λ i. minus (bits c) (get s (time i)) (get s clock)) (λ i m h e H.
-        let q = F i m h e .window in
-        (rw (H .time, clock-same, window-offset c t (h .packet) q) (diff-gt (h .packet .time) t), λ z. rw (H .time, clock-same) (window-early c t (h .packet) q z)))
+        go : (v : Option Held) → w .place i ≡ v → SlotShows B L r i v → Keys ltb (by (keyOf e) ltZ) (IsKey e) (key-order e) (sorted ltb e (candidate B s p i)) (filter (ofSort e) (toServe v p))
+        go none q h = rw (h, has-zero p hp) tt
+        go (some h) q H = rw (H .left, slot-early i l h q H) (at (h .packet) (has (h .left) p) (ltZ t (h .packet .time)) e refl (slot-key i l h q H))
+
+    leasts : (e : Bool) → Leasts e (least ltb (λ i. sorted ltb e (candidate B s p i)) 256) (least (by (keyOf e) ltZ) (λ i. filter (ofSort e) (toServe (w .place i) p)) 256)
+    leasts e = least-same ltb (by (keyOf e) ltZ) (IsKey e) (key-order e) (λ i. sorted ltb e (candidate B s p i)) (λ i. filter (ofSort e) (toServe (w .place i) p)) 256 (sort-keys e)
 
     -- By cases of the two choices.
-    granted-same : (h : ℕ) (o : Option (ℕ × ℕ)) (o′ : Option (ℕ × Packet)) → Leasts (λ x. x .deadline) o o′ → (b : Bool) (e : Option (ℕ × ℕ)) (e′ : Option (ℕ × Packet)) → Leasts (λ x. x .time) e e′
-        → Tick.granted o b e h ≡ strip (Whole.granted o′ b e′ t h)
-    unfolding Tick.granted Whole.granted strip
+    granted-same : (h : ℕ) (o : Option (ℕ × ℕ)) (o′ : Option (ℕ × Packet)) → Leasts false o o′ → (b : Bool) (e : Option (ℕ × ℕ)) (e′ : Option (ℕ × Packet)) → Leasts true e e′
+        → Tick.granted (first ltb o e) b h ≡ strip (Whole.granted o′ b e′ t h)
+    unfolding Tick.granted Whole.granted first strip
     granted-same h (some v) (some w) q b e e′ k = ap onTime (q .0)
     granted-same h (some v) none q b e e′ k = absurd q
     granted-same h none (some w) q b e e′ k = absurd q
-    granted-same h none none q true e e′ k = refl
+    granted-same h none none q true none e′ k = refl
+    granted-same h none none q true (some v) e′ k = refl
     granted-same h none none q false none none k = refl
     granted-same h none none q false none (some w) k = absurd k
     granted-same h none none q false (some v) none k = absurd k
@@ -129,9 +144,9 @@ module _ (B : Board) (L : Laws B) where
     grant-same : (b : ℕ) → Tick.grant B s b p ≡ strip (Whole.grant w b p)
     unfolding Tick.grant Whole.grant
     grant-same b =
-        let o = least byDeadline (λ i. filter (λ x. leZ (x .time) t) (toServe (w .place i) p)) 256 in
-        let e = least byTime (λ i. filter (λ x. ltZ t (x .time)) (toServe (w .place i) p)) 256 in
-        rw (R .settings .reads (horizon p) refl hp) (granted-same (w .horizon p) (least ltb (onTimeKey B s p) 256) o on-time-least (has b p) (least ltb (earlyKey B s p) 256) e early-least)
+        let o : Bool → Option (ℕ × ℕ) = λ e. least ltb (λ i. sorted ltb e (candidate B s p i)) 256 in
+        let o′ : Bool → Option (ℕ × Packet) = λ e. least (by (keyOf e) ltZ) (λ i. filter (ofSort e) (toServe (w .place i) p)) 256 in
+        rw (R .settings .reads (horizon p) refl hp, least-sorts ltb (candidate B s p) 256) (granted-same (w .horizon p) (o false) (o′ false) (leasts false) (has b p) (o true) (o′ true) (leasts true))
 
     -- ---- a port is served
 

@@ -3,8 +3,9 @@ use Prim.Native.Nat.{ℕ, zero, suc, _+_}
 use mathlib.Core.Bool.{Bool, true, cond, _&&_}
 use mathlib.Core.List.{List, [], _∷_}
 use mathlib.Core.Option.{Option, none, some}
+use Rattle.rules.specs.Order.{Order}
 
-module _ {A : Type 0} (less : A → A → Bool) where
+module _ {A : Type 0} (less : Order A) where
   -- `w` is the least so far, an index with its key; `x` is the key at i, if i has one.
   unfoldable pub better : Option (ℕ × A) → ℕ → Option A → Option (ℕ × A)
   better none i none = none

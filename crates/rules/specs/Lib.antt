@@ -1,4 +1,5 @@
 pub mod Clock
+pub mod Order
 pub mod Indices
 pub mod Areas
 pub mod Board

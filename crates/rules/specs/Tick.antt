@@ -6,18 +6,17 @@ use mathlib.Core.Option.{Option, none, some}
 use lib.Seq.{sets}
 use lib.Dec.{leb, ltb, eqb}
 use lib.IntN.{pos, negℤ}
-use lib.Signed.{ltZ, leZ}
+use lib.Signed.{ltZ}
 use Rattle.rules.specs.Clock.{plus, minus, offset}
+use Rattle.rules.specs.Order.{Key, comparator}
 use Rattle.rules.specs.Indices.{least, count}
 use Rattle.rules.specs.Areas.{Store, Reply, packetLength, byte, bits, packet, stamp, payload, packed, has, without, perPort, Grant, nobody, bestEffort, onTime, early, grantCode, noPacket, answersArea}
 use Rattle.rules.specs.Board.{Board, clock, horizon, free, idle, time, deadline, mask, outgoing, delay, routes}
 
--- From the least on-time key, best-effort's wait, the least early key and the horizon.
-unfoldable pub granted : Option (ℕ × ℕ) → Bool → Option (ℕ × ℕ) → ℕ → Grant ℕ
-granted (some w) b e h = onTime (w .0)
-granted none true e h = bestEffort
-granted none false none h = nobody
-granted none false (some w) h = cond (leb (w .1) h) (early (w .0)) nobody
+-- From the winner and its key, best-effort's wait and the horizon.
+unfoldable pub granted : Option (ℕ × Key ℕ) → Bool → ℕ → Grant ℕ
+granted none b h = cond b bestEffort nobody
+granted (some (i, k)) b h = cond (k .early) (cond b bestEffort (cond (leb (k .key) h) (early i) nobody)) (onTime i)
 
 -- What a port sends: a copy from memory.
 unfoldable pub grantBytes : List ℕ → Grant ℕ → List ℕ
@@ -62,16 +61,20 @@ module _ (B : Board) where
   arrived zero arriving area r = r
   arrived (suc p) arriving area r = let r′ = arrived p arriving area r in admitted r′ arriving p (packet area p)
 
-  -- Step 2, each port's choice. The keys of slot i for port p: deadline - t if it is on time, time - t if it is early.
-  unfoldable pub onTimeKey : List ℕ → ℕ → ℕ → Option ℕ
-  onTimeKey s p i = cond (has (get s (mask i)) p && leZ (offset (bits c) (get s (time i)) (get s clock)) (pos 0)) (some (minus (bits c) (get s (deadline i)) (get s clock))) none
+  -- Step 2, each port's choice. Slot i is early if its time's offset is above 0. Its key is deadline - t if it is on time, time - t if it is early.
+  abbrev pub isEarly : List ℕ → ℕ → Bool
+  isEarly s i = ltZ (pos 0) (offset (bits c) (get s (time i)) (get s clock))
 
-  unfoldable pub earlyKey : List ℕ → ℕ → ℕ → Option ℕ
-  earlyKey s p i = cond (has (get s (mask i)) p && ltZ (pos 0) (offset (bits c) (get s (time i)) (get s clock))) (some (minus (bits c) (get s (time i)) (get s clock))) none
+  unfoldable pub slotKey : List ℕ → ℕ → Key ℕ
+  slotKey s i = record { early = isEarly s i; key = minus (bits c) (cond (isEarly s i) (get s (time i)) (get s (deadline i))) (get s clock) }
 
-  -- The smaller key wins, equal keys go to the lower slot.
+  -- Each port looks at the slots whose mask has it.
+  unfoldable pub candidate : List ℕ → ℕ → ℕ → Option (Key ℕ)
+  candidate s p i = cond (has (get s (mask i)) p) (some (slotKey s i)) none
+
+  -- The least by the comparator wins, equal keys go to the lower slot.
   unfoldable pub grant : List ℕ → ℕ → ℕ → Grant ℕ
-  grant s waiting p = granted (least ltb (onTimeKey s p) 256) (has waiting p) (least ltb (earlyKey s p) 256) (get s (horizon p))
+  grant s waiting p = granted (least (comparator ltb) (candidate s p) 256) (has waiting p) (get s (horizon p))
 
   -- Step 3, the port leaves the mask of the slot that it sent.
   abbrev pub leave : ℕ → ℕ → List ℕ → List ℕ

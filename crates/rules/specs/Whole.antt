@@ -8,6 +8,7 @@ use lib.Dec.{eqb}
 use lib.IntN.{ℤ, pos, _+ℤ_, _-ℤ_, sucℤ}
 use lib.Signed.{ltZ, leZ}
 use Rattle.rules.specs.Clock.{cut}
+use Rattle.rules.specs.Order.{Order, by}
 use Rattle.rules.specs.Indices.{least}
 use Rattle.rules.specs.Areas.{byte, bits, packet, payload, packed, has, without, latchPlace, perPort, Grant, nobody, bestEffort, onTime, early, grantCode, noPacket, answersArea}
 
@@ -104,11 +105,12 @@ granted none true e T h = bestEffort
 granted none false none T h = nobody
 granted none false (some w) T h = cond (leZ (w .1 .time -ℤ T) (pos h)) (early w) nobody
 
-unfoldable pub byDeadline : Packet → Packet → Bool
-byDeadline x y = ltZ (x .deadline) (y .deadline)
+-- On-time packets go by their deadlines, early ones by their times.
+abbrev pub byDeadline : Order Packet
+byDeadline = by (λ x. x .deadline) ltZ
 
-unfoldable pub byTime : Packet → Packet → Bool
-byTime x y = ltZ (x .time) (y .time)
+abbrev pub byTime : Order Packet
+byTime = by (λ x. x .time) ltZ
 
 unfoldable pub grant : Router → ℕ → ℕ → Grant (ℕ × Packet)
 grant r b p =

@@ -1,0 +1,213 @@
+-- Orders: what makes one strict, orders by a key and one then another, the least in them, and the comparator's order. Assumes nothing.
+use Prim.Native.Nat.{ℕ, zero, suc, _<_}
+use mathlib.Core.Path.{_≡_, refl, sym, ap, ap₂, subst, _∙_}
+use mathlib.Core.Bool.{Bool, true, false, cond, not, _&&_, _||_, true≢false}
+use mathlib.Core.Logic.{_⊎_, inl, inr, ⊎-elim}
+use mathlib.Core.Option.{Option, none, some}
+use native.Mathlib.Decide.{decLt}
+use native.Mathlib.Omega.{arith}
+use lib.IntN.{ℤ, pos}
+use lib.Dec.{T, ltb}
+use lib.Signed.{ltZ}
+use Rattle.rules.specs.Indices.{better, least}
+use Rattle.rules.specs.Order.{Order, by, then, Key, onTimeFirst, comparator}
+use Rattle.rules.proofs.Booleans.{some-inj, none-some, is-true, true-is}
+use Rattle.rules.proofs.Integers.{orders, not-lt}
+
+-- ---- strict orders
+
+-- Nothing goes before itself, what goes before goes before all that comes after, and where one goes before another each third goes after the one or before the other.
+pub record Strict {A : Type 0} (less : Order A) : Type 0 where
+  pub irrefl : (x : A) → less x x ≡ true → ⊥
+  pub trans : (x y z : A) → less x y ≡ true → less y z ≡ true → less x z ≡ true
+  pub cotrans : (x y z : A) → less x z ≡ true → (less x y ≡ true) ⊎ (less y z ≡ true)
+
+-- A test holds or not.
+either : (t : Bool) → (t ≡ true) ⊎ (t ≡ false)
+either true = inl refl
+either false = inr refl
+
+-- What can't hold doesn't.
+fails : (t : Bool) → (t ≡ true → ⊥) → t ≡ false
+fails true n = absurd (n refl)
+fails false n = refl
+
+-- Whole numbers.
+pub strict-wholes : Strict ltZ
+strict-wholes = record {
+  irrefl = λ x e. let h = is-true (ltZ x x) e in omega (arith, orders);
+  trans = λ x y z e f. let h = is-true (ltZ x y) e in let k = is-true (ltZ y z) f in true-is (ltZ x z) (omega (arith, orders));
+  cotrans = λ x y z e. go x y z e (either (ltZ x y));
+}
+  where
+    go : (x y z : ℤ) → ltZ x z ≡ true → (ltZ x y ≡ true) ⊎ (ltZ x y ≡ false) → (ltZ x y ≡ true) ⊎ (ltZ y z ≡ true)
+    go x y z e (inl h) = inl h
+    go x y z e (inr h) = let k = is-true (ltZ x z) e in let n = not-lt x y h in inr (true-is (ltZ y z) (omega (arith, orders)))
+
+-- By a key.
+pub strict-by : {A K : Type 0} (key : A → K) {less : Order K} → Strict less → Strict (by key less)
+unfolding by
+strict-by key S = record { irrefl = λ x. S .irrefl (key x); trans = λ x y z. S .trans (key x) (key y) (key z); cotrans = λ x y z. S .cotrans (key x) (key y) (key z) }
+
+-- One then another.
+module _ {A : Type 0} (f g : Order A) where
+  -- The first tells them apart, or it doesn't and the second does.
+  then-cases : (x y : A) → then f g x y ≡ true → (f x y ≡ true) ⊎ ((f x y ≡ false) × (f y x ≡ false) × (g x y ≡ true))
+  unfolding then
+  then-cases x y e = go (f x y) (f y x) (g x y) e
+    where
+      go : (a b d : Bool) → (a || (not b && d)) ≡ true → (a ≡ true) ⊎ ((a ≡ false) × (b ≡ false) × (d ≡ true))
+      go true b d e = inl refl
+      go false false d e = inr (refl, refl, e)
+      go false true d e = absurd (true≢false (sym e))
+
+  then-first : (x y : A) → f x y ≡ true → then f g x y ≡ true
+  unfolding then
+  then-first x y e = rw e
+
+  then-second : (x y : A) → f y x ≡ false → g x y ≡ true → then f g x y ≡ true
+  unfolding then
+  then-second x y e q = rw (e, q) (go (f x y))
+    where
+      go : (a : Bool) → (a || true) ≡ true
+      go true = refl
+      go false = refl
+
+  module _ (F : Strict f) (G : Strict g) where
+    -- Not told apart from x, y stands to any third as x does.
+    no-back : (x y z : A) → f y z ≡ false → f z x ≡ false → f y x ≡ false
+    no-back x y z e q = fails (f y x) (λ h. go (F .cotrans y z x h))
+      where
+        go : (f y z ≡ true) ⊎ (f z x ≡ true) → ⊥
+        go (inl h) = true≢false (sym h ∙ e)
+        go (inr h) = true≢false (sym h ∙ q)
+
+    pub strict-then : Strict (then f g)
+    strict-then = record {
+      irrefl = λ x e. irrefl x (then-cases x x e);
+      trans = λ x y z e q. trans x y z (then-cases x y e) (then-cases y z q);
+      cotrans = λ x y z e. cotrans x y z (then-cases x z e) (either (f x y)) (either (f y z));
+    }
+      where
+        Cases : A → A → Type 0
+        Cases x y = (f x y ≡ true) ⊎ ((f x y ≡ false) × (f y x ≡ false) × (g x y ≡ true))
+
+        irrefl : (x : A) → Cases x x → ⊥
+        irrefl x (inl h) = F .irrefl x h
+        irrefl x (inr h) = G .irrefl x (h .2)
+
+        trans : (x y z : A) → Cases x y → Cases y z → then f g x z ≡ true
+        trans x y z (inl h) (inl k) = then-first x z (F .trans x y z h k)
+        trans x y z (inl h) (inr k) = ⊎-elim (λ d. then-first x z d) (λ d. absurd (true≢false (sym d ∙ k .1))) (F .cotrans x z y h)
+        trans x y z (inr h) (inl k) = ⊎-elim (λ d. absurd (true≢false (sym d ∙ h .1))) (λ d. then-first x z d) (F .cotrans y x z k)
+        trans x y z (inr h) (inr k) = then-second x z (no-back x z y (k .1) (h .1)) (G .trans x y z (h .2) (k .2))
+
+        second : (x y z : A) → f x y ≡ false → f y z ≡ false → f x z ≡ false → f z x ≡ false → (g x y ≡ true) ⊎ (g y z ≡ true) → (then f g x y ≡ true) ⊎ (then f g y z ≡ true)
+        second x y z a b d e (inl h) = inl (then-second x y (no-back x y z b e) h)
+        second x y z a b d e (inr h) = inr (then-second y z (no-back y z x e a) h)
+
+        cotrans : (x y z : A) → Cases x z → (f x y ≡ true) ⊎ (f x y ≡ false) → (f y z ≡ true) ⊎ (f y z ≡ false) → (then f g x y ≡ true) ⊎ (then f g y z ≡ true)
+        cotrans x y z d (inl h) k = inl (then-first x y h)
+        cotrans x y z d (inr h) (inl k) = inr (then-first y z k)
+        cotrans x y z (inl d) (inr h) (inr k) = ⊎-elim (λ q. absurd (true≢false (sym q ∙ h))) (λ q. absurd (true≢false (sym q ∙ k))) (F .cotrans x y z d)
+        cotrans x y z (inr d) (inr h) (inr k) = second x y z h k (d .0) (d .1) (G .cotrans x y z (d .2))
+
+-- ---- the least in a strict order is least
+
+module _ {A : Type 0} {less : Order A} (S : Strict less) where
+  -- Against each key there is a least that it is not less than.
+  abbrev Beats : Option (ℕ × A) → A → Type 0
+  Beats v x = (j : ℕ) × (y : A) × (v ≡ some (j, y)) × (less x y ≡ false)
+
+  -- A key is not less than the better of it and another.
+  better-new : (v : Option (ℕ × A)) (k : ℕ) (x : A) → Beats (better less v k (some x)) x
+  unfolding better
+  better-new none k x = (k, x, refl, fails (less x x) (S .irrefl x))
+  better-new (some w) k x = go (less x (w .1)) refl
+    where
+      go : (t : Bool) → less x (w .1) ≡ t → Beats (cond t (some (k, x)) (some w)) x
+      go true e = (k, x, refl, fails (less x x) (S .irrefl x))
+      go false e = (w .0, w .1, refl, e)
+
+  -- What beats a key is replaced only by what is less.
+  better-old : (v : Option (ℕ × A)) (k : ℕ) (y : Option A) (x : A) → Beats v x → Beats (better less v k y) x
+  unfolding better
+  better-old none k y x (j, z, e, l) = none-some e
+  better-old (some w) k none x b = b
+  better-old (some w) k (some y) x (j, z, e, l) = go (less y (w .1)) refl
+    where
+      same-z : w .1 ≡ z
+      same-z = ap (λ (w : ℕ × A). w .1) (some-inj e)
+
+      go : (t : Bool) → less y (w .1) ≡ t → Beats (cond t (some (k, y)) (some w)) x
+      go true q = (k, y, refl, fails (less x y) (λ h. true≢false (sym (S .trans x y (w .1) h q) ∙ ap (less x) same-z ∙ l)))
+      go false q = (j, z, e, l)
+
+  -- No key is less than the least.
+  pub least-beats : (key : ℕ → Option A) (k i : ℕ) (x : A) → i < k → key i ≡ some x → Beats (least less key k) x
+  unfolding least
+  least-beats key zero i x l e = absurd (omega arith)
+  least-beats key (suc k) i x l e = go (λ m. least-beats key k i x m e) (decLt i k)
+    where
+      go : (i < k → Beats (least less key k) x) → Dec (i < k) → Beats (better less (least less key k) k (key k)) x
+      go f (yes m) = better-old (least less key k) k (key k) x (f m)
+      go f (no m) =
+          let j : i ≡ k = omega arith in
+          subst (λ (y : Option A). Beats (better less (least less key k) k y) x) (sym e ∙ ap key j) (better-new (least less key k) k x)
+
+-- ---- the comparator: the least on-time key, and if there is none the least early one
+
+module _ {K : Type 0} (less : Order K) where
+  -- The key of a candidate of one sort.
+  unfoldable pub sorted : Bool → Option (Key K) → Option K
+  sorted b none = none
+  sorted b (some k) = cond (k .early) (cond b (some (k .key)) none) (cond b none (some (k .key)))
+
+  -- The first if there is one, else the second.
+  unfoldable pub first : Option (ℕ × K) → Option (ℕ × K) → Option (ℕ × Key K)
+  first (some (i, x)) e = some (i, record { early = false; key = x })
+  first none (some (i, x)) = some (i, record { early = true; key = x })
+  first none none = none
+
+  -- One candidate more is compared with the least of its sort.
+  better-sorts : (o e : Option (ℕ × K)) (k : ℕ) (b : Bool) (x : K) → let v : Option (Key K) = some (record { early = b; key = x }) in
+      better (comparator less) (first o e) k v ≡ first (better less o k (sorted false v)) (better less e k (sorted true v))
+  unfolding better first sorted comparator then by onTimeFirst
+  better-sorts none none k false x = refl
+  better-sorts none none k true x = refl
+  better-sorts none (some (i, y)) k false x = refl
+  better-sorts none (some (i, y)) k true x = go (less x y)
+    where
+      go : (t : Bool) → cond t (some (k, record { early = true; key = x })) (some (i, record { early = true; key = y })) ≡ first none (cond t (some (k, x)) (some (i, y)))
+      go true = refl
+      go false = refl
+  better-sorts (some (i, y)) e k true x = refl
+  better-sorts (some (i, y)) e k false x = go (less x y)
+    where
+      go : (t : Bool) → cond t (some (k, record { early = false; key = x })) (some (i, record { early = false; key = y })) ≡ first (cond t (some (k, x)) (some (i, y))) (better less e k none)
+      go true = refl
+      go false = refl
+
+  -- No candidate changes nothing.
+  better-none : (o e : Option (ℕ × K)) (k : ℕ) → better (comparator less) (first o e) k none ≡ first (better less o k none) (better less e k none)
+  unfolding better first
+  better-none none none k = refl
+  better-none none (some (i, y)) k = refl
+  better-none (some (i, y)) none k = refl
+  better-none (some (i, y)) (some w) k = refl
+
+  -- So the least of all is the least on time, or else the least early one.
+  pub least-sorts : (key : ℕ → Option (Key K)) (k : ℕ) → least (comparator less) key k ≡ first (least less (λ i. sorted false (key i)) k) (least less (λ i. sorted true (key i)) k)
+  unfolding least first sorted
+  least-sorts key zero = refl
+  least-sorts key (suc k) = ap (λ v. better (comparator less) v k (key k)) (least-sorts key k) ∙ go (key k)
+    where
+      o : Option (ℕ × K)
+      o = least less (λ i. sorted false (key i)) k
+
+      e : Option (ℕ × K)
+      e = least less (λ i. sorted true (key i)) k
+
+      go : (v : Option (Key K)) → better (comparator less) (first o e) k v ≡ first (better less o k (sorted false v)) (better less e k (sorted true v))
+      go none = better-none o e k
+      go (some x) = better-sorts o e k (x .early) (x .key)
