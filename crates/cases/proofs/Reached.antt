@@ -59,5 +59,5 @@ module _ (t : ℕ) (h : t < 256) (ks : List Call) (k : TickCall) (out ans : List
   ended = let (Q, b, u) = proper-then ks (start t) (tick k out ans) P in agree board8 lawful8 (met .rel) (met .good) (tick k out ans) b u
 
   -- Once the arrivals of an accepted one are stored.
-  pub arrived-related : refusal 1 (tick k out ans) ≡ 0 → Rel board8 lawful8 (Bytes.arrived board8 5 (k .arriving) (k .arrivals) r) (after 1 w k 5)
+  pub arrived-related : refusal 1 w (tick k out ans) ≡ 0 → Rel board8 lawful8 (Bytes.arrived board8 5 (k .arriving) (k .arrivals) r) (after 1 w k 5)
   arrived-related e = let (Q, b, u) = proper-then ks (start t) (tick k out ans) P in arrived-rel board8 lawful8 (met .rel) (met .good) k (input-of 1 w k out ans b u e) 5 (omega arith)

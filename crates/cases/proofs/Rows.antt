@@ -7,7 +7,7 @@ use mathlib.Core.Option.{Option, none, some}
 use native.Mathlib.Omega.{arith}
 use lib.Dec.{ltb, eqb}
 use lib.IntN.{pos}
-use lib.Signed.{leZ, ltZ}
+use lib.Signed.{ltZ}
 use borrow.Author.Tests.{ltb-true, eqb-true}
 use Rattle.rules.specs.Clock.{cut, minus, offset}
 use Rattle.rules.specs.Areas.{Store, bits, packet, has}
@@ -41,8 +41,7 @@ by-fields t i out m v D m′ k =
     (some (record {
       slot = i;
       bytes = k;
-      onTimeKey = whole (cond (has m 0 && leZ o (pos 0)) (some (minus (bits 1) D t)) none);
-      earlyKey = whole (cond (has m 0 && ltZ (pos 0) o) (some (minus (bits 1) v t)) none);
+      key = whole (record { early = ltZ (pos 0) o; key = minus (bits 1) (cond (ltZ (pos 0) o) v D) t });
       fate = fateOf (has m′ 0) (sameBytes k out);
     })) none
 
@@ -65,7 +64,7 @@ by-router r =
       candidates = listed (λ i. by-places (cut (bits 1) (arrivedWhole r .clock)) i (packet (o .reply .outgoing) 0) (arrivedWhole r .place i) (o .router .place i)) 256;
     }
 
-module _ (r : Row) (h : r .from < 256) (P : Proper 1 (start (r .from)) (r .earlier ++ (lent (r .tick) ∷ []))) (e : refusal 1 (lent (r .tick)) ≡ 0) where
+module _ (r : Row) (h : r .from < 256) (P : Proper 1 (start (r .from)) (r .earlier ++ (lent (r .tick) ∷ []))) (e : refusal 1 (beforeWhole r) (lent (r .tick)) ≡ 0) where
   abbrev end : Router
   end = wholeStep 1 (beforeWhole r) (lent (r .tick)) .router
 
@@ -82,7 +81,7 @@ module _ (r : Row) (h : r .from < 256) (P : Proper 1 (start (r .from)) (r .earli
 
   -- Field by field.
   slot-seen : (i : ℕ) → i < 256 → candidateOnBytes r i ≡ by-places (cut (bits 1) (arrivedWhole r .clock)) i (packet (outcome r .reply .outgoing) 0) (arrivedWhole r .place i) (end .place i)
-  unfolding candidateOnBytes before outcome arrived beforeWhole arrivedWhole byteStep Bytes.onTimeKey Bytes.earlyKey by-places
+  unfolding candidateOnBytes before outcome arrived beforeWhole arrivedWhole byteStep Bytes.slotKey by-places
   slot-seen i l = go (arrivedWhole r .place i) (R .place i l)
     where
       R : Rel board8 lawful8 (arrived r) (arrivedWhole r)
@@ -102,7 +101,7 @@ module _ (r : Row) (h : r .from < 256) (P : Proper 1 (start (r .from)) (r .earli
 -- The rows start at clock readings, their calls are proper, and their ticks are accepted.
 unfoldable pub runnable : List Row → Bool
 runnable [] = true
-runnable (r ∷ rs) = ltb (r .from) 256 && (isProper 1 (start (r .from)) (r .earlier ++ (lent (r .tick) ∷ [])) && (eqb (refusal 1 (lent (r .tick))) 0 && runnable rs))
+runnable (r ∷ rs) = ltb (r .from) 256 && (isProper 1 (start (r .from)) (r .earlier ++ (lent (r .tick) ∷ [])) && (eqb (refusal 1 (beforeWhole r) (lent (r .tick))) 0 && runnable rs))
 
 -- Rows are met where the router that never turns over shows them: by what it does, and by what its times cut to a byte make of it.
 pub all-meet : (rs : List Row) → runnable rs ≡ true → map by-router rs ≡ map expected rs → map onWhole rs ≡ map expected rs → AllMeet rs
@@ -111,10 +110,10 @@ all-meet [] e b w = tt
 all-meet (r ∷ rs) e b w =
     let k = lent (r .tick) in
     let proper-list = isProper 1 (start (r .from)) (r .earlier ++ (k ∷ [])) in
-    let accepted = eqb (refusal 1 k) 0 in
+    let accepted = eqb (refusal 1 (beforeWhole r) k) 0 in
     let e₁ = and-right (ltb (r .from) 256) (proper-list && (accepted && runnable rs)) e in
     let e₂ = and-right proper-list (accepted && runnable rs) e₁ in
     let h = ltb-true (r .from) 256 (and-left (ltb (r .from) 256) (proper-list && (accepted && runnable rs)) e) in
     let P = proper 1 (r .earlier ++ (k ∷ [])) (start (r .from)) (and-left proper-list (accepted && runnable rs) e₁) in
-    let a = eqb-true (refusal 1 k) 0 (and-left accepted (runnable rs) e₂) in
+    let a = eqb-true (refusal 1 (beforeWhole r) k) 0 (and-left accepted (runnable rs) e₂) in
     (record { bytes = bytes-seen r h P a ∙ cons-first b; whole = cons-first w; proper = P }, all-meet rs (and-right accepted (runnable rs) e₂) (cons-rest b) (cons-rest w))

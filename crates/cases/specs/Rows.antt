@@ -5,8 +5,9 @@ use mathlib.Core.List.{List, [], _∷_, _++_}
 use mathlib.Core.Option.{Option, none, some}
 use lib.Dec.{ltb, eqb}
 use lib.IntN.{ℤ, pos, _-ℤ_}
-use lib.Signed.{leZ, ltZ}
+use lib.Signed.{ltZ}
 use Rattle.rules.specs.Areas.{Store, Reply, packet, has}
+use Rattle.rules.specs.Order.{Key}
 use Rattle.rules.specs.Board.{clock, mask}
 use Rattle.rules.specs.Board8.{board8}
 use Rattle.rules.specs.Tick as Bytes
@@ -32,8 +33,7 @@ pub data Fate : Type 0 where
 pub record Candidate : Type 0 where
   pub slot : ℕ
   pub bytes : List ℕ
-  pub onTimeKey : Option ℤ
-  pub earlyKey : Option ℤ
+  pub key : Key ℤ
   pub fate : Fate
 
 -- What is seen of a tick: the clock that it meets, its reply in full, and every packet that waits for port 0, by slot.
@@ -77,9 +77,8 @@ unfoldable pub arrived : Row → Store
 arrived r = let k = r .tick in Bytes.arrived board8 5 (k .arriving) (k .arrivals) (before r)
 
 -- A key as a whole number.
-unfoldable pub whole : Option ℕ → Option ℤ
-whole none = none
-whole (some k) = some (pos k)
+unfoldable pub whole : Key ℕ → Key ℤ
+whole k = record { early = k .early; key = pos (k .key) }
 
 unfoldable pub sameBytes : List ℕ → List ℕ → Bool
 sameBytes [] [] = true
@@ -100,8 +99,7 @@ candidateOnBytes r i =
     (some (record {
       slot = i;
       bytes = k;
-      onTimeKey = whole (Bytes.onTimeKey board8 s 0 i);
-      earlyKey = whole (Bytes.earlyKey board8 s 0 i);
+      key = whole (Bytes.slotKey board8 s i);
       fate = fateOf (has (board8 .get (o .store .state) (mask i)) 0) (sameBytes k (packet (o .reply .outgoing) 0));
     })) none
 
@@ -131,8 +129,7 @@ candidateOnWhole r i = go (toServe (arrivedWhole r .place i) 0)
     go (some x) = some (record {
       slot = i;
       bytes = packetBytes 1 x;
-      onTimeKey = cond (leZ (x .time) T) (some (x .deadline -ℤ T)) none;
-      earlyKey = cond (ltZ T (x .time)) (some (x .time -ℤ T)) none;
+      key = record { early = ltZ T (x .time); key = cond (ltZ T (x .time)) (x .time) (x .deadline) -ℤ T };
       fate = reported (Whole.ticked 1 (beforeWhole r) (r .tick) .report) x;
     })
 

@@ -1,7 +1,7 @@
 -- The cases marked P of document 01 ("Cases") in one table, and the claim about them. Assumes nothing.
 use Prim.Native.Nat.{ℕ, _+_, _<_}
 use mathlib.Core.Path.{_≡_}
-use mathlib.Core.Bool.{true}
+use mathlib.Core.Bool.{true, false}
 use mathlib.Core.List.{List, [], _∷_, _++_, List·Memᴰ}
 use mathlib.Core.Option.{none, some}
 use lib.ListN.{replicate}
@@ -41,10 +41,10 @@ refused q = q ∷ replicate 4 0
 
 -- The packet k in a slot, its key, and its fate.
 abbrev pub isOnTime : ℕ → List ℕ → ℕ → Fate → Candidate
-isOnTime i k key f = record { slot = i; bytes = k; onTimeKey = some (pos key); earlyKey = none; fate = f }
+isOnTime i k key f = record { slot = i; bytes = k; key = record { early = false; key = pos key }; fate = f }
 
 abbrev pub isEarly : ℕ → List ℕ → ℕ → Fate → Candidate
-isEarly i k key f = record { slot = i; bytes = k; onTimeKey = none; earlyKey = some (pos key); fate = f }
+isEarly i k key f = record { slot = i; bytes = k; key = record { early = true; key = pos key }; fate = f }
 
 -- ---- one packet
 

@@ -12,6 +12,7 @@ use Rattle.rules.specs.Account.{NotedTick, Kept, stored}
 use Rattle.rules.specs.Areas.{Store, Reply, numberReply, bits, fits, elem, distinct}
 use Rattle.rules.specs.Board.{Board, clock, horizon, latch, free, idle, mask, outgoing, delay, routes}
 use Rattle.rules.specs.Calls.{Step, Call, control, tick, refusal, refuse, accept, wholeStep, routerAfter, wholeReplies, ByteCall, TrueTimes, Proper}
+use Rattle.rules.specs.Asked.{asked}
 use Rattle.rules.specs.Control.{written}
 use Rattle.rules.specs.Demand3.{noted, byteStep, storeAfter, byteReplies, history, PlaceShown, Shown, AfterCalls, Holds}
 use Rattle.rules.specs.Indices.{all, count, counted, topFirst}
@@ -21,7 +22,7 @@ use Rattle.rules.specs.Tick as Tick
 use Rattle.rules.specs.Tick.{Outcome}
 use Rattle.rules.specs.Whole.{Held, Router, TickCall, start, rising, written as wholeWritten, ticked, isHeld}
 use Rattle.rules.proofs.BoardLaws.{Laws, freshField}
-use Rattle.rules.proofs.Booleans.{asked, none-some}
+use Rattle.rules.proofs.Booleans.{asked-passed, none-some}
 use Rattle.rules.proofs.IndexLaws.{all-at}
 use Rattle.rules.proofs.Good.{Busy, Good}
 use Rattle.rules.proofs.Runs.{written-good, next-good, input-of, Ticking, Run, rest, quiet, ticks}
@@ -98,18 +99,18 @@ module _ (B : Board) (L : Laws B) where
 
   module _ {r : Store} {w : Router} (R : Rel B L r w) (G : Good c w) where
     -- The first two questions are passed, so the others alone decide.
-    control-number : (register v : ℕ) → controlRefusal B r register v ≡ refusal c (control register v)
-    unfolding controlRefusal refusal
+    control-number : (register v : ℕ) → controlRefusal B r register v ≡ refusal c w (control register v)
+    unfolding controlRefusal refusal asked
     control-number register v = rw (rel-full B L R G, rel-sound B L R G)
 
-    tick-number : (k : TickCall) (out ans : List ℕ) → tickRefusal B r (k .arriving) (k .bestEffort) (k .arrivals) out ans ≡ refusal c (tick k out ans)
-    unfolding tickRefusal refusal
+    tick-number : (k : TickCall) (out ans : List ℕ) → tickRefusal B r (k .arriving) (k .bestEffort) (k .arrivals) out ans ≡ refusal c w (tick k out ans)
+    unfolding tickRefusal refusal asked
     tick-number k out ans = rw (rel-full B L R G, rel-sound B L R G)
 
     -- Both questions are passed.
-    control-passed : (register v : ℕ) → refusal c (control register v) ≡ 0 → (leb register 5 ≡ true) × (fits c register v ≡ true)
+    control-passed : (register v : ℕ) → refusal c w (control register v) ≡ 0 → (leb register 5 ≡ true) × (fits c register v ≡ true)
     unfolding refusal
-    control-passed register v e = let (p, f) = asked (leb register 5) 3 (cond (not (fits c register v)) 5 0) e in (p, asked (fits c register v) 4 0 f .0)
+    control-passed register v e = let (p, f) = asked-passed (leb register 5) 3 ((fits c register v, 5) ∷ []) e in (p, asked-passed (fits c register v) 4 [] f .0)
 
     -- An accepted call agrees, or a refused one.
     decided : {k : Call} {o o′ : Outcome} {q q′ : Step} (a : Bool) → (a ≡ true → Agree w k o q) → Agree w k o′ q′ → Agree w k (cond a o o′) (cond a q q′)
@@ -119,14 +120,14 @@ module _ (B : Board) (L : Laws B) where
     -- An accepted call by the lemma of its kind, a refused one changes nothing in either router.
     pub agree : (k : Call) → ByteCall c k → TrueTimes c w k → Agree w k (byteStep B r k) (wholeStep c w k)
     unfolding byteStep Entry.controlWrite Entry.tick wholeStep accept refuse noted wholeWritten
-    agree (control register v) hb ht = rw (control-number register v) (decided (eqb (refusal c (control register v)) 0) accepted (record { rel = R; good = G; reply = refl; runs = λ S. S }))
+    agree (control register v) hb ht = rw (control-number register v) (decided (eqb (refusal c w (control register v)) 0) accepted (record { rel = R; good = G; reply = refl; runs = λ S. S }))
       where
-        accepted : eqb (refusal c (control register v)) 0 ≡ true → Agree w (control register v) (record { reply = numberReply 0; store = with-state B L r (written B register v (r .state)) }) (accept c w (control register v))
+        accepted : eqb (refusal c w (control register v)) 0 ≡ true → Agree w (control register v) (record { reply = numberReply 0; store = with-state B L r (written B register v (r .state)) }) (accept c w (control register v))
         accepted e =
-            let (p, q) = control-passed register v (eqb-true (refusal c (control register v)) 0 e) in
+            let (p, q) = control-passed register v (eqb-true (refusal c w (control register v)) 0 e) in
             let l = leb-true register 5 p in
             record { rel = written-rel B L R (G .kept) register v l q; good = written-good c w G register v l q; reply = refl; runs = λ S. quiet refl refl S }
-    agree (tick k out ans) hb ht = rw (tick-number k out ans) (decided (eqb (refusal c (tick k out ans)) 0) accepted (record { rel = R; good = G; reply = refl; runs = λ S. S }))
+    agree (tick k out ans) hb ht = rw (tick-number k out ans) (decided (eqb (refusal c w (tick k out ans)) 0) accepted (record { rel = R; good = G; reply = refl; runs = λ S. S }))
       where
         t : Outcome
         t = Tick.ticked B r (k .arriving) (k .bestEffort) (k .arrivals)
@@ -134,9 +135,9 @@ module _ (B : Board) (L : Laws B) where
         d : NotedTick
         d = record { met = w; call = k; report = ticked c w k .report; outgoing = t .reply .outgoing }
 
-        accepted : eqb (refusal c (tick k out ans)) 0 ≡ true → Agree w (tick k out ans) t (accept c w (tick k out ans))
+        accepted : eqb (refusal c w (tick k out ans)) 0 ≡ true → Agree w (tick k out ans) t (accept c w (tick k out ans))
         accepted e =
-            let I = input-of c w k out ans hb ht (eqb-true (refusal c (tick k out ans)) 0 e) in
+            let I = input-of c w k out ans hb ht (eqb-true (refusal c w (tick k out ans)) 0 e) in
             let u : Ticking c d = record { good = G; input = I; report = refl; sends = sends-same B L R G k I } in
             record { rel = tick-rel B L R G k I; good = next-good c u; reply = reply-same B L R G k I; runs = λ S. ticks d u S }
 

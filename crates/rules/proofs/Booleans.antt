@@ -6,6 +6,7 @@ use mathlib.Core.List.{List, [], _∷_}
 use mathlib.Core.Option.{none, some}
 use native.Mathlib.Omega.{arith}
 use lib.Dec.{T}
+use Rattle.rules.specs.Asked.{Question, asked}
 
 -- ---- a test and its proposition
 
@@ -63,9 +64,10 @@ eq-beq a b e = subst (λ (x : Bool). Bool·beq a x ≡ true) e (go a)
     go false = refl
 
 -- Where questions give 0, the first is passed and the rest give 0.
-pub asked : (a : Bool) (n m : ℕ) → cond (not a) (suc n) m ≡ 0 → (a ≡ true) × (m ≡ 0)
-asked true n m e = (refl, e)
-asked false n m e = absurd (omega arith)
+pub asked-passed : (passed : Bool) (n : ℕ) (qs : List Question) → asked ((passed, suc n) ∷ qs) ≡ 0 → (passed ≡ true) × (asked qs ≡ 0)
+unfolding asked
+asked-passed true n qs e = (refl, e)
+asked-passed false n qs e = absurd (omega arith)
 
 -- ---- constructors are one-to-one, and differ
 

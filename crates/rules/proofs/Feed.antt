@@ -52,7 +52,7 @@ module _ (c : ℕ) (some-bytes : 0 < c) (few-bytes : c < 20) where
   feed-proper (control register v ∷ ks) r h = (h (control register v) (List·Memᴰ·head refl), tt, feed-proper ks (wholeStep c r (control register v) .router) (λ k m. h k (List·Memᴰ·tail m)))
   feed-proper (tick k out ans ∷ ks) r h =
       let b = h (tick k out ans) (List·Memᴰ·head refl) in
-      (b, λ e p hp q. true-time r k′ refl (whole-area c k′ out ans e) (b .2) p hp, feed-proper ks (wholeStep c r (tick k′ out ans) .router) (λ k m. h k (List·Memᴰ·tail m)))
+      (b, λ e p hp q. true-time r k′ refl (whole-area c r k′ out ans e) (b .2) p hp, feed-proper ks (wholeStep c r (tick k′ out ans) .router) (λ k m. h k (List·Memᴰ·tail m)))
     where
       k′ : TickCall
       k′ = record { arriving = k .arriving; bestEffort = k .bestEffort; arrivals = k .arrivals; times = trueTimes c (r .clock) (k .arrivals) }

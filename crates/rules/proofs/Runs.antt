@@ -13,9 +13,10 @@ use lib.Signed.{leZ}
 use borrow.Author.Tests.{eqb-true, leb-true, ltb-true}
 use Rattle.rules.specs.Account.{NotedTick}
 use Rattle.rules.specs.Areas.{Bytes, half, packet, has, fits, areasFull}
+use Rattle.rules.specs.Asked.{tickQuestions}
 use Rattle.rules.specs.Calls.{tick, refusal, ByteCall, TrueTimes}
 use Rattle.rules.specs.Whole.{Router, TickCall, put, written, ticked, grantBytes}
-use Rattle.rules.proofs.Booleans.{asked, and-left, cons-first, cons-rest, nil-cons}
+use Rattle.rules.proofs.Booleans.{asked-passed, and-left, cons-first, cons-rest, nil-cons}
 use Rattle.rules.proofs.Integers.{orders, suc-nat, later-differs}
 use Rattle.rules.proofs.Good.{Good, EntryInRange, SettingsInRange, Input, ended-frame, tick-good}
 
@@ -45,19 +46,19 @@ written-good c w G register v l f = record { settings = written-range c w (G .se
 -- ---- an accepted tick's input
 
 -- An accepted tick has a whole arrivals area.
-pub whole-area : (c : ℕ) (k : TickCall) (out ans : List ℕ) → refusal c (tick k out ans) ≡ 0 → length (k .arrivals) ≡ 100
+pub whole-area : (c : ℕ) (w : Router) (k : TickCall) (out ans : List ℕ) → refusal c w (tick k out ans) ≡ 0 → length (k .arrivals) ≡ 100
 unfolding refusal areasFull
-whole-area c k out ans e =
+whole-area c w k out ans e =
     let a = eqb (length (k .arrivals)) 100 in
     let b = eqb (length out) 100 in
     let d = eqb (length ans) 20 in
-    eqb-true (length (k .arrivals)) 100 (and-left a b (and-left (a && b) d (asked (a && b && d) 0 (cond (not (leb (k .arriving) 31 && leb (k .bestEffort) 31)) 3 0) e .0)))
+    eqb-true (length (k .arrivals)) 100 (and-left a b (and-left (a && b) d (asked-passed (a && b && d) 0 (tickQuestions (k .arriving) (k .bestEffort)) e .0)))
 
 -- From what is asked of the calls.
-pub input-of : (c : ℕ) (w : Router) (k : TickCall) (out ans : List ℕ) → ByteCall c (tick k out ans) → TrueTimes c w (tick k out ans) → refusal c (tick k out ans) ≡ 0 → Input c (w .clock) k
+pub input-of : (c : ℕ) (w : Router) (k : TickCall) (out ans : List ℕ) → ByteCall c (tick k out ans) → TrueTimes c w (tick k out ans) → refusal c w (tick k out ans) ≡ 0 → Input c (w .clock) k
 unfolding ByteCall TrueTimes Bytes packet
 input-of c w k out ans (ha, hb, bytes, ho, hn) true-times e =
-    let whole = whole-area c k out ans e in
+    let whole = whole-area c w k out ans e in
     record {
       whole = whole;
       identifier = λ p l. subst (λ (n : ℕ). n < 256) (sym (getD-take 20 (drop (20 * p) (k .arrivals)) 0 0 (omega arith) ∙ getD-drop (20 * p) (k .arrivals) 0 0)) (bytes (20 * p + 0) (omega arith));

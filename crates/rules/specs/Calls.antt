@@ -1,14 +1,15 @@
 -- Calls, a list of them run by the router that never turns over, and what is asked of the list (document 01, "The router that never turns over"). Assumes nothing.
 use Prim.Native.Nat.{ℕ, _^_, _<_}
 use mathlib.Core.Path.{_≡_}
-use mathlib.Core.Bool.{true, cond, not, _&&_}
+use mathlib.Core.Bool.{true, cond}
 use mathlib.Core.List.{List, [], _∷_}
 use mathlib.Core.Option.{Option, none, some}
-use lib.Dec.{leb, eqb}
+use lib.Dec.{eqb}
 use lib.IntN.{ℤ, pos, negℤ, _+ℤ_, _-ℤ_}
 use lib.Signed.{_≤ℤ_, _<ℤ_}
 use Rattle.rules.specs.Clock.{cut, offset}
-use Rattle.rules.specs.Areas.{Reply, numberReply, areasFull, Bytes, bits, half, packet, stamp, has, fits}
+use Rattle.rules.specs.Areas.{Reply, numberReply, areasFull, Bytes, bits, half, packet, stamp, has}
+use Rattle.rules.specs.Asked.{asked, controlQuestions, tickQuestions}
 use Rattle.rules.specs.Whole.{Router, TickCall, Report, written, ticked, outgoingBytes, answerBytes}
 
 -- A call as the firmware makes it: a control write, or a tick with the outgoing and answers areas that it is lent.
@@ -23,11 +24,10 @@ pub record Step : Type 0 where
   pub report : Option Report
 
 module _ (c : ℕ) where
-  -- The number of a call: every question but whether the state is sound. Of outgoing and answers it sees the lengths.
-  unfoldable pub refusal : Call → ℕ
-  refusal (control register v) = cond (not (leb register 5)) 4 (cond (not (fits c register v)) 5 0)
-  refusal (tick k out ans) =
-      cond (not (areasFull (k .arrivals) out ans)) 1 (cond (not (leb (k .arriving) 31 && leb (k .bestEffort) 31)) 3 0)
+  -- The number of a call to the router r: every question but whether the state is sound. Of outgoing and answers it sees the lengths.
+  unfoldable pub refusal : Router → Call → ℕ
+  refusal r (control register v) = asked (controlQuestions c register v)
+  refusal r (tick k out ans) = asked ((areasFull (k .arrivals) out ans, 1) ∷ tickQuestions (k .arriving) (k .bestEffort))
 
   unfoldable pub accept : Router → Call → Step
   accept r (control register v) = record { reply = numberReply 0; router = written register v r; report = none }
@@ -41,7 +41,7 @@ module _ (c : ℕ) where
   refuse r (tick k out ans) n = record { reply = record { number = n; outgoing = out; answers = ans }; router = r; report = none }
 
   unfoldable pub wholeStep : Router → Call → Step
-  wholeStep r k = let n = refusal k in cond (eqb n 0) (accept r k) (refuse r k n)
+  wholeStep r k = let n = refusal r k in cond (eqb n 0) (accept r k) (refuse r k n)
 
   unfoldable pub routerAfter : Router → List Call → Router
   routerAfter r [] = r
@@ -65,7 +65,7 @@ module _ (c : ℕ) where
   -- Each packet that an accepted tick brings.
   unfoldable pub TrueTimes : Router → Call → Type 0
   TrueTimes r (control register v) = Unit {0}
-  TrueTimes r (tick k out ans) = refusal (tick k out ans) ≡ 0 → (p : ℕ) → p < 5 → has (k .arriving) p ≡ true → TrueTime r k p
+  TrueTimes r (tick k out ans) = refusal r (tick k out ans) ≡ 0 → (p : ℕ) → p < 5 → has (k .arriving) p ≡ true → TrueTime r k p
 
   unfoldable pub Proper : Router → List Call → Type 0
   Proper r [] = Unit {0}

@@ -1,15 +1,16 @@
 -- The questions, in order (document 01), and the entries that put them: a refused call gives its number and alters nothing. Assumes nothing.
 use Prim.Native.Nat.{ℕ, _-_}
-use mathlib.Core.Bool.{Bool, cond, not, _&&_, _||_, Bool·beq}
-use mathlib.Core.List.{List}
+use mathlib.Core.Bool.{Bool, cond, _&&_, _||_, Bool·beq}
+use mathlib.Core.List.{List, _∷_}
 use lib.ListN.{length, replicate}
 use lib.Dec.{leb, ltb, eqb}
 use lib.IntN.{pos, negℤ}
 use lib.Signed.{leZ}
 use Rattle.rules.specs.Clock.{minus, offset}
 use Rattle.rules.specs.Indices.{all, topFirst}
-use Rattle.rules.specs.Areas.{Store, numberReply, memoryLength, areasFull, bits, half, packet, stamp, fits, elem, distinct}
+use Rattle.rules.specs.Areas.{Store, numberReply, memoryLength, areasFull, bits, half, packet, stamp, elem, distinct}
 use Rattle.rules.specs.Board.{Board, clock, horizon, latch, free, idle, time, deadline, mask, delay, routes}
+use Rattle.rules.specs.Asked.{asked, controlQuestions, tickQuestions}
 use Rattle.rules.specs.Control.{written}
 use Rattle.rules.specs.Tick.{Outcome, ticked}
 
@@ -59,15 +60,12 @@ module _ (B : Board) where
   unfoldable pub sound : Store → Bool
   sound r = settingsSound (r .state) && (stackSound (r .state) && slotsSound r)
 
-  -- A control write's number, 0 for accepted: is the register 0-5 (4), does the value fit it (5)?
+  -- The number of a control write, and of a tick.
   unfoldable pub controlRefusal : Store → ℕ → ℕ → ℕ
-  controlRefusal r register v =
-      cond (not (full r)) 1 (cond (not (sound r)) 2 (cond (not (leb register 5)) 4 (cond (not (fits c register v)) 5 0)))
+  controlRefusal r register v = asked ((full r, 1) ∷ (sound r, 2) ∷ controlQuestions c register v)
 
-  -- A tick's number: are both masks at most 31 (3)?
   unfoldable pub tickRefusal : Store → ℕ → ℕ → List ℕ → List ℕ → List ℕ → ℕ
-  tickRefusal r arriving waiting area out ans =
-      cond (not (full r && areasFull area out ans)) 1 (cond (not (sound r)) 2 (cond (not (leb arriving 31 && leb waiting 31)) 3 0))
+  tickRefusal r arriving waiting area out ans = asked ((full r && areasFull area out ans, 1) ∷ (sound r, 2) ∷ tickQuestions arriving waiting)
 
   -- A fresh router: the given clock, and zero memory.
   unfoldable pub fresh : ℕ → Store
