@@ -60,24 +60,6 @@ module _ (r : Router) (b p : ℕ) where
       let (u, v) = filter-some (λ x. leZ (x .time) (r .clock)) (toServe (r .place (w .0)) p) (w .1) f in
       (l, u, is-true (leZ (w .1 .time) (r .clock)) v)
 
-  -- By the two choices, and what the least is.
-  pub grant-rests : Rests r p (grant r b p)
-  unfolding grant granted
-  grant-rests = go ready refl (has b p) ahead refl
-    where
-      cases : (w : ℕ × Packet) → ahead ≡ some w → (t : Bool) → leZ (w .1 .time -ℤ r .clock) (pos (r .horizon p)) ≡ t → Rests r p (cond t (early w) nobody)
-      cases w e true q =
-          let (l, f) = least-in byTime earlyAt 256 (w .0) (w .1) e in
-          let (u, v) = filter-some (λ x. ltZ (r .clock) (x .time)) (toServe (r .place (w .0)) p) (w .1) f in
-          (l, u, is-true (ltZ (r .clock) (w .1 .time)) v, is-true (leZ (w .1 .time -ℤ r .clock) (pos (r .horizon p))) q)
-      cases w e false q = tt
-
-      go : (o : Option (ℕ × Packet)) → ready ≡ o → (t : Bool) → (e : Option (ℕ × Packet)) → ahead ≡ e → Rests r p (granted o t e (r .clock) (r .horizon p))
-      go (some w) q t e s = ready-in w q
-      go none q true e s = tt
-      go none q false none s = tt
-      go none q false (some w) s = cases w s (leZ (w .1 .time -ℤ r .clock) (pos (r .horizon p))) refl
-
   -- A waiting packet whose time has come makes the port send on time one of no later deadline.
   pub grant-on-time : (i : ℕ) (x : Packet) → i < 256 → toServe (r .place i) p ≡ some x → T (leZ (x .time) (r .clock)) → (j : ℕ) × (y : Packet) × (grant r b p ≡ onTime (j, y)) × T (leZ (y .deadline) (x .deadline))
   unfolding grant granted by
@@ -125,6 +107,27 @@ module _ (r : Router) (b p : ℕ) where
         let le = not-lt (x .time) (y .time) n in
         let near = true-is (leZ (y .time -ℤ r .clock) (pos (r .horizon p))) (omega (arith, orders, diff-nat (x .time) (r .clock), diff-nat (y .time) (r .clock))) in
         (j, y, ap₂ (λ v t. granted v t ahead (r .clock) (r .horizon p)) not-ready f ∙ ap (λ v. granted none false v (r .clock) (r .horizon p)) q ∙ ap (λ (t : Bool). cond t (early (j, y)) nobody) near, le)
+
+-- ---- what a grant rests on
+
+module _ (r : Router) (b p : ℕ) where
+  -- By the two choices, and what the least is.
+  pub grant-rests : Rests r p (grant r b p)
+  unfolding grant granted
+  grant-rests = go (ready r b p) refl (has b p) (ahead r b p) refl
+    where
+      cases : (w : ℕ × Packet) → ahead r b p ≡ some w → (t : Bool) → leZ (w .1 .time -ℤ r .clock) (pos (r .horizon p)) ≡ t → Rests r p (cond t (early w) nobody)
+      cases w e true q =
+          let (l, f) = least-in byTime (earlyAt r b p) 256 (w .0) (w .1) e in
+          let (u, v) = filter-some (λ x. ltZ (r .clock) (x .time)) (toServe (r .place (w .0)) p) (w .1) f in
+          (l, u, is-true (ltZ (r .clock) (w .1 .time)) v, is-true (leZ (w .1 .time -ℤ r .clock) (pos (r .horizon p))) q)
+      cases w e false q = tt
+
+      go : (o : Option (ℕ × Packet)) → ready r b p ≡ o → (t : Bool) → (e : Option (ℕ × Packet)) → ahead r b p ≡ e → Rests r p (granted o t e (r .clock) (r .horizon p))
+      go (some w) q t e s = ready-in r b p w q
+      go none q true e s = tt
+      go none q false none s = tt
+      go none q false (some w) s = cases w s (leZ (w .1 .time -ℤ r .clock) (pos (r .horizon p))) refl
 
 -- A waiting packet is held, with the port left.
 pub toServe-held : (v : Option Held) (p : ℕ) (x : Packet) → toServe v p ≡ some x → (h : Held) × (v ≡ some h) × (h .packet ≡ x) × (has (h .left) p ≡ true)

@@ -9,6 +9,7 @@ pub mod BoardLaws
 pub mod FieldBytes
 pub mod Offsets
 pub mod TimeLaws
+pub mod Comparator
 pub mod TableLaws
 pub mod Board8Laws
 pub mod StateLaws

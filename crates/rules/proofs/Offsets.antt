@@ -1,7 +1,7 @@
 -- The signed reading of a number of b bits, by tests of the number. Assumes nothing.
 use Prim.Native.Nat.{ℕ, zero, suc, _+_, _-_, _*_, _/_, _%_, _^_, _<_, _≤_}
 use mathlib.Core.Path.{_≡_, refl, sym, ap, _∙_}
-use mathlib.Core.Bool.{true, not, _&&_, _||_, or-true, or-false, and-true, and-false}
+use mathlib.Core.Bool.{Bool, true, not, Bool·not-not, _&&_, _||_, or-true, or-false, and-true, and-false}
 use native.Mathlib.Decide.{decLt}
 use native.Mathlib.Omega.{arith}
 use native.Mathlib.Nat.{mod-lt, div-add-mod'}
@@ -62,6 +62,9 @@ above (pos a) (pos b) = flip a b
 above (pos a) (negsuc b) = refl
 above (negsuc a) (pos b) = refl
 above (negsuc a) (negsuc b) = flip b a
+
+pub at-most : (t u : ℤ) (d : Bool) → ltZ t u ≡ d → leZ u t ≡ not d
+at-most t u d e = sym (Bool·not-not (leZ u t)) ∙ ap not (sym (above t u) ∙ e)
 
 -- The offset of the time a at t, by their difference x, at a clock reading of c bytes.
 module _ (c a t x : ℕ) (e : x ≡ minus (bits c) a t) where

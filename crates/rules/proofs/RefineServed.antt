@@ -1,7 +1,7 @@
 -- Steps 2 and 3: both routers grant each port to the same, and serving keeps the relation. Assumes nothing.
 use Prim.Native.Nat.{ℕ, zero, suc, _<_, _≤_}
 use mathlib.Core.Path.{_≡_, refl, sym, ap, ap₂, subst, _∙_}
-use mathlib.Core.Bool.{Bool, true, false, cond, not, Bool·not-not}
+use mathlib.Core.Bool.{Bool, true, false, cond}
 use mathlib.Core.List.{List}
 use mathlib.Core.Option.{Option, none, some}
 use native.Mathlib.Omega.{arith}
@@ -22,15 +22,14 @@ use Rattle.rules.proofs.BoardLaws.{Laws, sameField}
 use Rattle.rules.specs.Tick as Tick
 use Rattle.rules.specs.Whole as Whole
 use Rattle.rules.proofs.IndexLaws.{Keys, Least, least-same}
-use Rattle.rules.proofs.Booleans.{is-true}
-use Rattle.rules.proofs.Integers.{diff-gt, diff-lt}
-use Rattle.rules.proofs.Offsets.{above}
+use Rattle.rules.proofs.Integers.{diff-lt}
+use Rattle.rules.proofs.Offsets.{at-most}
+use Rattle.rules.proofs.Comparator.{keyOf, read-early, read-key}
 use Rattle.rules.proofs.OrderLaws.{sorted, first, least-sorts}
 use Rattle.rules.proofs.Masks.{has-zero}
 use Rattle.rules.proofs.WholeLaws.{AllHeld}
 use Rattle.rules.proofs.Grants.{Rests, grant-rests, toServe-held}
 use Rattle.rules.proofs.Good.{Good, HeldInWindow, Input, after, serving, window-then, served-kept}
-use Rattle.rules.proofs.TimeLaws.{window-offset, window-on-time, window-early}
 use Rattle.rules.proofs.StateLaws.{Reads, none-out, reads-self, reads-put, reads-off, stack-same}
 use Rattle.rules.proofs.Relation.{SlotShows, Rel, with-state, rel-room, shows-put, settings-places}
 
@@ -69,10 +68,6 @@ module _ (B : Board) (L : Laws B) where
 
     -- ---- the keys are in one order
 
-    -- Early packets have their times as keys, on-time ones their deadlines.
-    abbrev keyOf : Bool → Packet → ℤ
-    keyOf e x = cond e (x .time) (x .deadline)
-
     -- A slot's key is its packet's less the clock.
     abbrev IsKey : Bool → ℕ → Packet → Type 0
     IsKey e a x = pos a ≡ keyOf e x -ℤ t
@@ -90,11 +85,11 @@ module _ (B : Board) (L : Laws B) where
 
     -- A slot that holds a packet is early where the packet is, and its key is the packet's.
     slot-early : (i : ℕ) → i < 256 → (h : Held) → w .place i ≡ some h → HeldShown B r i h → isEarly B s i ≡ ltZ t (h .packet .time)
-    slot-early i l h e H = rw (H .time, clock-same, window-offset c t (h .packet) (F i l h e .window)) (diff-gt (h .packet .time) t)
+    slot-early i l h e H =
+        ap (ltZ (pos 0)) (ap₂ (offset (bits c)) (H .time) clock-same) ∙ read-early c t (h .packet) (F i l h e .window)
 
-    slot-key : (i : ℕ) → i < 256 → (h : Held) → w .place i ≡ some h → HeldShown B r i h → (e : Bool) → T (ofSort e (h .packet)) → IsKey e (minus (bits c) (cond e (get s (time i)) (get s (deadline i))) (get s clock)) (h .packet)
-    slot-key i l h e H true z = rw (H .time, clock-same) (window-early c t (h .packet) (F i l h e .window) z)
-    slot-key i l h e H false z = rw (H .deadline, clock-same) (window-on-time c t (h .packet) (F i l h e .window) z)
+    slot-key : (i : ℕ) → i < 256 → (h : Held) → w .place i ≡ some h → HeldShown B r i h → (e : Bool) → ltZ t (h .packet .time) ≡ e → IsKey e (minus (bits c) (cond e (get s (time i)) (get s (deadline i))) (get s clock)) (h .packet)
+    slot-key i l h q H e z = rw (H .time, H .deadline, clock-same) (read-key c t (h .packet) (F i l h q .window) e z)
 
     -- So the candidates of a sort are the slots of its packets, with keys in one order.
     sort-keys : (e : Bool) (i : ℕ) → i < 256 → Keys ltb (by (keyOf e) ltZ) (IsKey e) (key-order e) (sorted ltb e (candidate B s p i)) (filter (ofSort e) (toServe (w .place i) p))
@@ -104,16 +99,13 @@ module _ (B : Board) (L : Laws B) where
         n : Bool → ℕ
         n e = minus (bits c) (cond e (get s (time i)) (get s (deadline i))) (get s clock)
 
-        not-early : (x : Packet) (d : Bool) → ltZ t (x .time) ≡ d → leZ (x .time) t ≡ not d
-        not-early x d q = sym (Bool·not-not (leZ (x .time) t)) ∙ ap not (sym (above t (x .time)) ∙ q)
-
-        at : (x : Packet) (a d e : Bool) → ltZ t (x .time) ≡ d → ((e : Bool) → T (ofSort e x) → IsKey e (n e) x)
+        at : (x : Packet) (a d e : Bool) → ltZ t (x .time) ≡ d → ((e : Bool) → ltZ t (x .time) ≡ e → IsKey e (n e) x)
             → Keys ltb (by (keyOf e) ltZ) (IsKey e) (key-order e) (sorted ltb e (cond a (some (record { early = d; key = n d })) none)) (filter (ofSort e) (cond a (some x) none))
         at x false d e q f = tt
-        at x true true true q f = rw q (f true (is-true (ltZ t (x .time)) q))
-        at x true true false q f = rw (not-early x true q) tt
+        at x true true true q f = rw q (f true q)
+        at x true true false q f = rw (at-most t (x .time) true q) tt
         at x true false true q f = rw q tt
-        at x true false false q f = rw (not-early x false q) (f false (is-true (leZ (x .time) t) (not-early x false q)))
+        at x true false false q f = rw (at-most t (x .time) false q) (f false q)
 
         go : (v : Option Held) → w .place i ≡ v → SlotShows B L r i v → Keys ltb (by (keyOf e) ltZ) (IsKey e) (key-order e) (sorted ltb e (candidate B s p i)) (filter (ofSort e) (toServe v p))
         go none q h = rw (h, has-zero p hp) tt
@@ -146,7 +138,8 @@ module _ (B : Board) (L : Laws B) where
     grant-same b =
         let o : Bool → Option (ℕ × ℕ) = λ e. least ltb (λ i. sorted ltb e (candidate B s p i)) 256 in
         let o′ : Bool → Option (ℕ × Packet) = λ e. least (by (keyOf e) ltZ) (λ i. filter (ofSort e) (toServe (w .place i) p)) 256 in
-        rw (R .settings .reads (horizon p) refl hp, least-sorts ltb (candidate B s p) 256) (granted-same (w .horizon p) (o false) (o′ false) (leasts false) (has b p) (o true) (o′ true) (leasts true))
+        ap₂ (λ v n. Tick.granted v (has b p) n) (least-sorts ltb (candidate B s p) 256) (R .settings .reads (horizon p) refl hp)
+        ∙ granted-same (w .horizon p) (o false) (o′ false) (leasts false) (has b p) (o true) (o′ true) (leasts true)
 
     -- ---- a port is served
 

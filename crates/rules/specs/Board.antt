@@ -5,43 +5,30 @@ use lib.ListN.{take, drop}
 use lib.Seq.{sets}
 use Rattle.rules.specs.Areas.{value, digits}
 
--- The kinds of field in the state.
+-- The kinds of field in the state: for each port a horizon; the registers' last bytes; the free count n and the entries of the idle-address stack;
+-- for each slot its logical arrival time, deadline and ports still to serve; for each connection its outgoing identifier, delay and mask.
 pub data Kind : Type 0 where
-  Clock : Kind
-  Horizon : Kind
-  Latch : Kind
-  Free : Kind
-  Idle : Kind
-  Time : Kind
-  Deadline : Kind
-  Mask : Kind
-  Outgoing : Kind
-  Delay : Kind
-  Routes : Kind
+  Clock Horizon Latch Free Idle Time Deadline Mask Outgoing Delay Routes : Kind
 
--- A field is a kind and an index.
+-- A field is a kind and an index: a port, the place of a register (3 for register 4), an entry, a slot or a connection.
 abbrev pub Field : Type 0
 Field = Kind × ℕ
 
 abbrev pub clock : Field
 clock = (Clock, 0)
 
--- Port p's horizon.
 abbrev pub horizon : ℕ → Field
 horizon p = (Horizon, p)
 
--- Register r's last byte, at place 3 for register 4.
 abbrev pub latch : ℕ → Field
 latch r = (Latch, r)
 
--- The free count n, and entry i of the idle-address stack.
 abbrev pub free : Field
 free = (Free, 0)
 
 abbrev pub idle : ℕ → Field
 idle i = (Idle, i)
 
--- Slot i's logical arrival time, deadline and ports still to serve.
 abbrev pub time : ℕ → Field
 time i = (Time, i)
 
@@ -51,7 +38,6 @@ deadline i = (Deadline, i)
 abbrev pub mask : ℕ → Field
 mask i = (Mask, i)
 
--- Connection i's outgoing identifier, delay and mask.
 abbrev pub outgoing : ℕ → Field
 outgoing i = (Outgoing, i)
 
