@@ -16,7 +16,7 @@ use Rattle.rules.specs.Indices.{count, counted}
 use Rattle.rules.specs.Whole.{Packet, Held, Router, TickCall, Arrival, absent, refused, accepted, placed, admitted, toServe, lose, sent, served, isDue, due, withdrawn, remaining, emptied, meets, arrived}
 use Rattle.rules.proofs.IndexLaws.{count-only, counted-false}
 use Rattle.rules.proofs.Masks.{has-without-same, has-without-other, has-zero}
-use Rattle.rules.proofs.WholeLaws.{AllHeld, tally, tally-put, fresh-held, loses, lost-in, first-place, first-empty, emptied-at}
+use Rattle.rules.proofs.WholeLaws.{AllHeld, tally, tally-put, fresh-held, loses, lost-in, first-place, first-empty, emptied-at, arrival-passed, arrival-room}
 use Rattle.rules.proofs.Grants.{Rests, grant-rests, toServe-held}
 use Rattle.rules.proofs.Good.{Good, Input, after, accepted-passed, arrivals-kept, serving, chosen, serving-by, served-window}
 
@@ -36,14 +36,14 @@ any y = true
 
 -- An arrival adds the packet that it brings: it takes an empty place.
 admitted-tally : (t : Option Held → Bool) (m : Packet → Bool) (x : Packet) → t none ≡ false → ((y : Packet) → t (some (fresh-held y)) ≡ (m y && samePacket x y)) → (a : Arrival) (w : Router) → Kept (w .place) (w .free)
-    → ((y : Packet) → a ≡ accepted y → eqb (length (w .free)) 0 ≡ false) → tally t (admitted a w .place) ≡ tally t (w .place) + counted (taken m x a)
+    → ((y : Packet) → a ≡ accepted y → w .free ≡ [] → ⊥) → tally t (admitted a w .place) ≡ tally t (w .place) + counted (taken m x a)
 unfolding admitted placed taken counted
 admitted-tally t m x e₀ e₁ absent w K r = omega arith
 admitted-tally t m x e₀ e₁ (refused q) w K r = omega arith
 admitted-tally t m x e₀ e₁ (accepted y) w K r = go (w .free) refl
   where
     go : (l : List ℕ) → w .free ≡ l → tally t (placed l y w .place) ≡ tally t (w .place) + counted (m y && samePacket x y)
-    go [] e = absurd (eqb-false (length (w .free)) 0 (r y refl) (ap length e))
+    go [] e = absurd (r y refl e)
     go (i ∷ l) e =
         let K′ = subst (Kept (w .place)) e K in
         let h = tally-put t (w .place) i (some (fresh-held y)) (first-place K′) in
@@ -188,7 +188,7 @@ module _ (c : ℕ) (w : Router) (call : TickCall) (G : Good c w) (I : Input c (w
   arrivals-tally t m x e₀ e₁ zero = omega arith
   arrivals-tally t m x e₀ e₁ (suc n) =
       let a = arrivals-tally t m x e₀ e₁ n in
-      let b = admitted-tally t m x e₀ e₁ (meets c call (now n) n) (now n) (arrivals-kept c w call G I n) (λ y e. accepted-passed c w call n y e .room) in
+      let b = admitted-tally t m x e₀ e₁ (meets c call (now n) n) (now n) (arrivals-kept c w call G I n) (λ y e. arrival-room c (now n) (packet (call .arrivals) n) (call .times n) (arrival-passed c (now n) (call .arriving) n (packet (call .arrivals) n) (call .times n) y e .refusal)) in
       omega arith
 
   arrivals-in : (x : Packet) → tally (holds x) (now 5 .place) ≡ tally (holds x) (w .place) + brought any x 5

@@ -18,7 +18,7 @@ use Rattle.rules.proofs.Booleans.{some-inj}
 use Rattle.rules.proofs.Integers.{orders, diff-nat, suc-nat, not-lt, not-le}
 use Rattle.rules.proofs.AreaLaws.{length-packet, length-payload}
 use Rattle.rules.proofs.Masks.{without-le}
-use Rattle.rules.proofs.WholeLaws.{AllHeld, fresh-held, loses, put-all, lose-all, stored-in, lost-in, admitted-by, sent-by, Passed, arrival-passed, kept-take, kept-same, held-put, held-lose, emptied-kept, emptied-frame, emptied-held}
+use Rattle.rules.proofs.WholeLaws.{AllHeld, fresh-held, loses, put-all, lose-all, stored-in, lost-in, admitted-by, sent-by, Passed, arrival-passed, arrival-entry, kept-take, kept-same, held-put, held-lose, emptied-kept, emptied-frame, emptied-held}
 use Rattle.rules.proofs.Grants.{grant-rests}
 
 -- The times of a packet at the clock t: deadline by a delay in range, not past, and the time less than n ahead.
@@ -183,7 +183,7 @@ module _ (c : ℕ) (w : Router) (call : TickCall) (G : Good c w) (I : Input c (w
           delay = w .entry i .delay;
           sum = refl;
           small = G .settings .entry i (I .identifier p l) .delay;
-          due = not-lt (call .times p +ℤ pos (w .entry i .delay)) (w .clock) (m .in-time);
+          due = arrival-entry c (withPlaces w (after c w call p .place) (after c w call p .free)) (packet (call .arrivals) p) (call .times p) (m .refusal) .1;
           soon = I .soon p l (m .brought);
           arrived = omega (arith, orders);
           size = length-payload c (packet (call .arrivals) p) (length-packet (call .arrivals) p (let e = I .whole in omega arith));
@@ -195,7 +195,7 @@ module _ (c : ℕ) (w : Router) (call : TickCall) (G : Good c w) (I : Input c (w
   accepted-busy : (p : ℕ) (x : Packet) → meets c call (at p) p ≡ accepted x → Busy (fresh-held x)
   accepted-busy p x e =
       let m = accepted-passed c w call p x e in
-      subst (λ y. Busy (fresh-held y)) (m .packet) (let n = eqb-false (w .entry (byte (packet (call .arrivals) p) 0) .mask) 0 (m .open-entry) in omega arith)
+      subst (λ y. Busy (fresh-held y)) (m .packet) (arrival-entry c (withPlaces w (after c w call p .place) (after c w call p .free)) (packet (call .arrivals) p) (call .times p) (m .refusal) .0)
 
   -- What they store fits, as what was stored does.
   arrivals-window : (p : ℕ) → p ≤ 5 → AllHeld (HeldInWindow c (w .clock) (half c)) (at p .place)

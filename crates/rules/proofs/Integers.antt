@@ -121,13 +121,13 @@ diff-le u v = let d = diff-nat u v in same-test (leZ (u -ℤ v) (pos 0)) (leZ u 
 pub diff-gt : (u v : ℤ) → ltZ (pos 0) (u -ℤ v) ≡ ltZ v u
 diff-gt u v = let d = diff-nat u v in same-test (ltZ (pos 0) (u -ℤ v)) (ltZ v u) (λ t. omega (arith, orders)) (λ t. omega (arith, orders))
 
--- It is below - n where the time and n are before the clock.
-pub diff-late : (n : ℕ) (u v : ℤ) → ltZ (u -ℤ v) (negℤ (pos n)) ≡ ltZ (u +ℤ pos n) v
-diff-late n u v =
+-- It is at least - n where the time and n are not before the clock.
+pub diff-in-time : (n : ℕ) (u v : ℤ) → leZ (negℤ (pos n)) (u -ℤ v) ≡ leZ v (u +ℤ pos n)
+diff-in-time n u v =
     let d = diff-nat u v in
     let a = add-nat u (pos n) in
     let m = neg-nat (pos n) in
-    same-test (ltZ (u -ℤ v) (negℤ (pos n))) (ltZ (u +ℤ pos n) v) (λ t. omega (arith, orders)) (λ t. omega (arith, orders))
+    same-test (leZ (negℤ (pos n)) (u -ℤ v)) (leZ v (u +ℤ pos n)) (λ t. omega (arith, orders)) (λ t. omega (arith, orders))
 
 -- Offsets at one clock are in the order of the times.
 pub diff-lt : (v u w : ℤ) → ltZ (u -ℤ v) (w -ℤ v) ≡ ltZ u w

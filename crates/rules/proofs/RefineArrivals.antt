@@ -9,7 +9,7 @@ use lib.ListN.{length}
 use lib.Seq.{sets, length-sets}
 use lib.Dec.{eqb}
 use lib.IntN.{ℤ, pos, negℤ, _+ℤ_}
-use lib.Signed.{ltZ}
+use lib.Signed.{leZ}
 use borrow.Author.Tests.{eq-eqb, ne-eqb}
 use Rattle.rules.specs.Account.{Kept}
 use Rattle.rules.specs.Areas.{byte, bits, packet, stamp, payload, packed, has, Store}
@@ -17,14 +17,15 @@ use Rattle.rules.specs.Board.{Board, clock, free, idle, time, deadline, 
 use Rattle.rules.specs.Clock.{cut, plus, offset}
 use Rattle.rules.specs.Indices.{topFirst}
 use Rattle.rules.specs.Questions.{stack}
+use Rattle.rules.specs.Asked.{arrivalAnswer}
 use Rattle.rules.specs.Tick.{arrived}
 use Rattle.rules.specs.Tick as Tick
-use Rattle.rules.specs.Whole.{Held, Router, TickCall, withPlaces, placed, admitted, arrivalCode, meets, packetBytes}
+use Rattle.rules.specs.Whole.{Held, Router, TickCall, made, withPlaces, placed, admitted, arrivalCode, meets, packetBytes}
 use Rattle.rules.specs.Whole as Whole
 use Rattle.rules.proofs.BoardLaws.{Laws, sameField}
 use Rattle.rules.proofs.Booleans.{cons-first, cons-rest}
-use Rattle.rules.proofs.Integers.{diff-late}
-use Rattle.rules.proofs.WholeLaws.{fresh-held, made, Passed, arrival-by, first-place, arrival-code}
+use Rattle.rules.proofs.Integers.{diff-in-time}
+use Rattle.rules.proofs.WholeLaws.{fresh-held, Passed, arrival-by, first-place, arrival-room, arrival-code}
 use Rattle.rules.proofs.Good.{Good, Input, after, arrivals-kept, input-then}
 use Rattle.rules.proofs.TimeLaws.{plus-cut, offset-is}
 use Rattle.rules.proofs.AreaLaws.{length-packet, length-payload, packet-same, packet-other, length-packed}
@@ -56,22 +57,20 @@ module _ (B : Board) (L : Laws B) where
     delay-same : get s (delay i) ≡ w .entry i .delay
     delay-same = R .settings .reads (delay i) refl hi
 
-    -- An offset below - d is a deadline before the clock.
-    late-same : has (call .arriving) p ≡ true → ltZ (offset (bits c) (stamp c k) (get s clock)) (negℤ (pos (get s (delay i)))) ≡ ltZ (call .times p +ℤ pos (w .entry i .delay)) (w .clock)
-    late-same h =
-        ap₂ (λ (o : ℤ) (d : ℕ). ltZ o (negℤ (pos d))) (ap₂ (offset (bits c)) (I .header p hp h) (R .settings .reads clock refl (omega arith)) ∙ offset-is c (call .times p) (w .clock) (I .from p hp h) (I .soon p hp h)) delay-same
-        ∙ diff-late (w .entry i .delay) (call .times p) (w .clock)
+    -- An offset of at least - d is a deadline that is not before the clock.
+    in-time-same : has (call .arriving) p ≡ true → leZ (negℤ (pos (get s (delay i)))) (offset (bits c) (stamp c k) (get s clock)) ≡ leZ (w .clock) (call .times p +ℤ pos (w .entry i .delay))
+    in-time-same h =
+        ap₂ (λ (o : ℤ) (d : ℕ). leZ (negℤ (pos d)) o) (ap₂ (offset (bits c)) (I .header p hp h) (R .settings .reads clock refl (omega arith)) ∙ offset-is c (call .times p) (w .clock) (I .from p hp h) (I .soon p hp h)) delay-same
+        ∙ diff-in-time (w .entry i .delay) (call .times p) (w .clock)
 
     -- Both routers answer an arrival alike.
     code-same : Tick.arrival B s (call .arriving) p k ≡ arrivalCode (meets c call w p)
-    unfolding Tick.arrival
+    unfolding Tick.arrival Tick.arrivalRefusal Whole.arrivalRefusal
     code-same = go (has (call .arriving) p) refl ∙ sym (arrival-code c w (call .arriving) p k (call .times p))
       where
-        go : (h : Bool) → has (call .arriving) p ≡ h → _≡_ {A = ℕ}
-            (cond (not h) 0 (cond (eqb (get s (routes i)) 0) 6 (cond (ltZ (offset (bits c) (stamp c k) (get s clock)) (negℤ (pos (get s (delay i))))) 7 (cond (eqb (get s free) 0) 8 1))))
-            (cond (not h) 0 (cond (eqb (w .entry i .mask) 0) 6 (cond (ltZ (call .times p +ℤ pos (w .entry i .delay)) (w .clock)) 7 (cond (eqb (length (w .free)) 0) 8 1))))
+        go : (h : Bool) → has (call .arriving) p ≡ h → cond h (arrivalAnswer (Tick.arrivalRefusal B s k)) 0 ≡ cond h (arrivalAnswer (Whole.arrivalRefusal c w k (call .times p))) 0
         go false q = refl
-        go true q = rw (late-same q, routes-same, rel-free B L R)
+        go true q = rw (in-time-same q, routes-same, rel-free B L R)
 
     -- ---- an accepted packet
 
@@ -171,7 +170,7 @@ module _ (B : Board) (L : Laws B) where
     arrival-rel = rw code-same (arrival-by c w (call .arriving) p k (call .times p) (λ a. Rel B L (cond (eqb (arrivalCode a) 1) (Tick.placed B r k) r) (admitted a w)) R (λ q l. rw (ne-eqb q 1 (omega arith)) R) (λ m. first (w .free) refl m))
       where
         first : (l : List ℕ) → w .free ≡ l → Passed c w (call .arriving) p k (call .times p) (made c w p k (call .times p)) → Rel B L (Tick.placed B r k) (placed l (made c w p k (call .times p)) w)
-        first [] e m = absurd (true≢false (sym (ap (λ (z : List ℕ). eqb (length z) 0) e) ∙ m .room))
+        first [] e m = absurd (arrival-room c w k (call .times p) (m .refusal) e)
         first (j ∷ l) e m = rw (stored-is (m .brought) j l e) (stored-rel (m .brought) j l e)
 
   -- ---- the arrivals on the ports below p

@@ -14,7 +14,8 @@ use borrow.Author.Tests.{ne-eqb, eq-eqb}
 use Rattle.rules.specs.Account.{NotedTick, samePacket, isSent, times, isLeft, leftOn, sentOn, withdrawnOn, Accepted, Unserved, NoneOnTime, Prompt, answerDue, stored, Stored, Accounts}
 use Rattle.rules.specs.Areas.{byte, packet, has, bestEffort, onTime, early}
 use Rattle.rules.specs.Indices.{count, counted}
-use Rattle.rules.specs.Whole.{Packet, Held, Router, TickCall, Arrival, toServe, meets, arrived, ticked, Report, arrivalCode}
+use Rattle.rules.specs.Asked.{asked, arrivalQuestions, arrivalAnswer}
+use Rattle.rules.specs.Whole.{Packet, Held, Router, TickCall, Arrival, toServe, meets, arrivalRefusal, arrived, ticked, Report, arrivalCode}
 use Rattle.rules.proofs.Booleans.{is-true, same-test}
 use Rattle.rules.proofs.IndexLaws.{count-none, count-some, count-same, count-two, count-pos, counted-true, counted-false}
 use Rattle.rules.proofs.Integers.{orders, suc-nat, not-le}
@@ -46,7 +47,7 @@ module _ (c : ℕ) where
 
   -- By the settings, which the tick does not change, and the free places, which make 256 with the stored packets.
   answers-due : {d : NotedTick} → Ticking c d → (p : ℕ) → arrivalCode (d .report .arrival p) ≡ answerDue d p
-  unfolding answerDue
+  unfolding answerDue arrivalRefusal
   answers-due {d} t p =
       let w = d .met in
       let call = d .call in
@@ -56,9 +57,11 @@ module _ (c : ℕ) where
       let free = arrivals-free c w call p in
       let kept = t .good .kept .all in
       let n = count-same (λ q. eqb (arrivalCode (d .report .arrival q)) 1) (λ q. eqb (arrivalCode (meets c call (after c w call q) q)) 1) p (λ q l. ap (λ (a : Arrival). eqb (arrivalCode a) 1) (arrival-is c t q)) in
+      let answer : ℕ → ℕ = λ q. cond (has (call .arriving) p) (arrivalAnswer q) 0 in
+      let e = w .entry (byte k 0) in
       ap arrivalCode (arrival-is c t p) ∙ arrival-code c r (call .arriving) p k (call .times p)
-      ∙ ap (λ (v : Router). cond (not (has (call .arriving) p)) 0 (cond (eqb (v .entry (byte k 0) .mask) 0) 6 (cond (ltZ (call .times p +ℤ pos (v .entry (byte k 0) .delay)) (v .clock)) 7 (cond (eqb (length (v .free)) 0) 8 1)))) f
-      ∙ ap (λ (b : Bool). cond (not (has (call .arriving) p)) 0 (cond (eqb (w .entry (byte k 0) .mask) 0) 6 (cond (ltZ (call .times p +ℤ pos (w .entry (byte k 0) .delay)) (w .clock)) 7 (cond b 8 1))))
+      ∙ ap (λ (v : Router). answer (arrivalRefusal c v k (call .times p))) f
+      ∙ ap (λ (b : Bool). answer (asked (arrivalQuestions (not (eqb (e .mask) 0)) (leZ (w .clock) (call .times p +ℤ pos (e .delay))) (not b))))
       (full-same (length (r .free)) (stored (w .place) + count p (λ q. eqb (arrivalCode (d .report .arrival q)) 1)) (omega arith) (omega arith))
 
   -- ---- a run with one more tick

@@ -8,15 +8,16 @@ use mathlib.Core.Option.{Option, none, some}
 use native.Mathlib.Decide.{ℕ-discrete}
 use native.Mathlib.Omega.{arith}
 use lib.ListN.{length}
-use lib.Dec.{ltb, eqb}
+use lib.Dec.{T, ltb, eqb}
 use lib.IntN.{ℤ, pos, _+ℤ_}
-use lib.Signed.{ltZ}
-use borrow.Author.Tests.{eq-eqb, ne-eqb, lt-ltb, le-ltb}
+use lib.Signed.{leZ}
+use borrow.Author.Tests.{eq-eqb, ne-eqb, eqb-false, lt-ltb, le-ltb}
 use Rattle.rules.specs.Account.{stored, Kept}
 use Rattle.rules.specs.Areas.{byte, packet, payload, has, without, elem, distinct, Grant, nobody, bestEffort, onTime, early}
+use Rattle.rules.specs.Asked.{asked, arrivalQuestions, arrivalAnswer}
 use Rattle.rules.specs.Indices.{count, counted}
-use Rattle.rules.specs.Whole.{Packet, Held, Router, withPlaces, put, Arrival, absent, refused, accepted, placed, admitted, lose, sent, isDue, remaining, freed, emptied, arrival, arrivalCode, isHeld}
-use Rattle.rules.proofs.Booleans.{some-inj, none-some, and-left, and-right, or-right, not-false}
+use Rattle.rules.specs.Whole.{Packet, Held, Router, withPlaces, put, Arrival, absent, refused, accepted, placed, admitted, lose, sent, isDue, remaining, freed, emptied, arrivalRefusal, made, arrival, arrivalCode, isHeld}
+use Rattle.rules.proofs.Booleans.{is-true, asked-passed, some-inj, none-some, and-left, and-right, or-right, not-false}
 use Rattle.rules.proofs.IndexLaws.{count-change, count-same}
 use Rattle.rules.proofs.Integers.{ltb-iff}
 use Rattle.rules.proofs.Grants.{Rests}
@@ -105,64 +106,79 @@ sent-by P p (early (i, x)) r R b f = f i (R .0)
 -- ---- arrivals
 
 module _ (c : ℕ) where
-  -- The packet as it is made of its bytes and the entry.
-  abbrev pub made : Router → ℕ → List ℕ → ℤ → Packet
-  made r p k u = record {
-    arrived = r .clock;
-    input = p;
-    time = u;
-    deadline = u +ℤ pos (r .entry (byte k 0) .delay);
-    identifier = r .entry (byte k 0) .identifier;
-    payload = payload c k;
-    mask = r .entry (byte k 0) .mask;
-  }
-
   -- What an accepted packet has passed.
   pub record Passed (r : Router) (arriving p : ℕ) (k : List ℕ) (u : ℤ) (x : Packet) : Type 0 where
     pub brought : has arriving p ≡ true
-    pub open-entry : eqb (r .entry (byte k 0) .mask) 0 ≡ false
-    pub in-time : ltZ (u +ℤ pos (r .entry (byte k 0) .delay)) (r .clock) ≡ false
-    pub room : eqb (length (r .free)) 0 ≡ false
-    pub packet : made r p k u ≡ x
+    pub refusal : arrivalRefusal c r k u ≡ 0
+    pub packet : made c r p k u ≡ x
 
-  -- The questions decide: a refusal by 6 or more, or a packet that has passed them all.
-  pub arrival-by : (r : Router) (arriving p : ℕ) (k : List ℕ) (u : ℤ) (P : Arrival → Type 0) → P absent → ((q : ℕ) → 6 ≤ q → P (refused q)) → (Passed r arriving p k u (made r p k u) → P (accepted (made r p k u))) → P (arrival c r arriving p k u)
-  unfolding arrival
-  arrival-by r arriving p k u P a b d = go (has arriving p) (eqb (r .entry (byte k 0) .mask) 0) (ltZ (u +ℤ pos (r .entry (byte k 0) .delay)) (r .clock)) (eqb (length (r .free)) 0) refl refl refl refl
+  -- A no is answered by 6 or more.
+  refused-by : (a b d : Bool) → asked (arrivalQuestions a b d) ≢ 0 → 6 ≤ asked (arrivalQuestions a b d)
+  unfolding asked
+  refused-by false b d n = omega arith
+  refused-by true false d n = omega arith
+  refused-by true true false n = omega arith
+  refused-by true true true n = absurd (n refl)
+
+  -- A packet is absent, or refused by 6 or more, or it has passed them all.
+  pub arrival-by : (r : Router) (arriving p : ℕ) (k : List ℕ) (u : ℤ) (P : Arrival → Type 0) → P absent → ((q : ℕ) → 6 ≤ q → P (refused q)) → (Passed r arriving p k u (made c r p k u) → P (accepted (made c r p k u))) → P (arrival c r arriving p k u)
+  unfolding arrival arrivalRefusal
+  arrival-by r arriving p k u P a b d = go (has arriving p) refl (ℕ-discrete q 0)
     where
-      go : (s t v z : Bool) → has arriving p ≡ s → eqb (r .entry (byte k 0) .mask) 0 ≡ t → ltZ (u +ℤ pos (r .entry (byte k 0) .delay)) (r .clock) ≡ v → eqb (length (r .free)) 0 ≡ z
-          → P (cond (not s) absent (cond t (refused 6) (cond v (refused 7) (cond z (refused 8) (accepted (made r p k u))))))
-      go false t v z e f g h = a
-      go true true v z e f g h = b 6 (omega arith)
-      go true false true z e f g h = b 7 (omega arith)
-      go true false false true e f g h = b 8 (omega arith)
-      go true false false false e f g h = d (record { brought = e; open-entry = f; in-time = g; room = h; packet = refl })
+      q : ℕ
+      q = arrivalRefusal c r k u
+
+      at-least : q ≢ 0 → 6 ≤ q
+      at-least n = refused-by _ _ _ n
+
+      go : (s : Bool) → has arriving p ≡ s → Dec (q ≡ 0) → P (cond s (cond (eqb q 0) (accepted (made c r p k u)) (refused q)) absent)
+      go false e n = a
+      go true e (yes z) = rw (eq-eqb q 0 z) (d (record { brought = e; refusal = z; packet = refl }))
+      go true e (no n) = rw (ne-eqb q 0 n) (b q (at-least n))
 
   -- So an accepted packet has passed them.
   pub arrival-passed : (r : Router) (arriving p : ℕ) (k : List ℕ) (u : ℤ) (x : Packet) → arrival c r arriving p k u ≡ accepted x → Passed r arriving p k u x
   arrival-passed r arriving p k u x = arrival-by r arriving p k u (λ a. a ≡ accepted x → Passed r arriving p k u x)
       (λ e. let z : _≡_ {A = ℕ} 0 1 = cc in absurd (omega arith)) (λ q l e. let z : _≡_ {A = ℕ} 0 1 = cc in absurd (omega arith)) (λ m e. subst (Passed r arriving p k u) (cc) m)
 
-  -- Its answer, question by question.
-  pub arrival-code : (r : Router) (arriving p : ℕ) (k : List ℕ) (u : ℤ)
-      → arrivalCode (arrival c r arriving p k u) ≡ cond (not (has arriving p)) 0 (cond (eqb (r .entry (byte k 0) .mask) 0) 6 (cond (ltZ (u +ℤ pos (r .entry (byte k 0) .delay)) (r .clock)) 7 (cond (eqb (length (r .free)) 0) 8 1)))
-  unfolding arrival arrivalCode
-  arrival-code r arriving p k u = go (has arriving p) (eqb (r .entry (byte k 0) .mask) 0) (ltZ (u +ℤ pos (r .entry (byte k 0) .delay)) (r .clock)) (eqb (length (r .free)) 0)
+  -- Its entry is open, and its deadline not past.
+  pub arrival-entry : (r : Router) (k : List ℕ) (u : ℤ) → arrivalRefusal c r k u ≡ 0 → (0 < r .entry (byte k 0) .mask) × T (leZ (r .clock) (u +ℤ pos (r .entry (byte k 0) .delay)))
+  unfolding arrivalRefusal
+  arrival-entry r k u e =
+      let m = r .entry (byte k 0) .mask in
+      let (a, f) = asked-passed (not (eqb m 0)) 5 _ e in
+      let (b, g) = asked-passed (leZ (r .clock) (u +ℤ pos (r .entry (byte k 0) .delay))) 6 _ f in
+      let n = eqb-false m 0 (not-false (eqb m 0) a) in
+      (omega arith, is-true (leZ (r .clock) (u +ℤ pos (r .entry (byte k 0) .delay))) b)
+
+  -- Where no place is free, 8 is the answer if the other questions are passed.
+  pub arrival-room : (r : Router) (k : List ℕ) (u : ℤ) → arrivalRefusal c r k u ≡ 0 → r .free ≡ [] → ⊥
+  unfolding arrivalRefusal asked
+  arrival-room r k u e z =
+      go (not (eqb (r .entry (byte k 0) .mask) 0)) (leZ (r .clock) (u +ℤ pos (r .entry (byte k 0) .delay))) (subst (λ (l : List ℕ). arrivalRefusal c (withPlaces r (r .place) l) k u ≡ 0) z e)
     where
-      go : (h b d e : Bool) → arrivalCode (cond (not h) absent (cond b (refused 6) (cond d (refused 7) (cond e (refused 8) (accepted (made r p k u)))))) ≡ cond (not h) 0 (cond b 6 (cond d 7 (cond e 8 1)))
-      go false b d e = refl
-      go true true d e = refl
-      go true false true e = refl
-      go true false false true = refl
-      go true false false false = refl
+      go : (a b : Bool) → _≡_ {A = ℕ} (cond (not a) 6 (cond (not b) 7 8)) 0 → ⊥
+      go false b e = omega arith
+      go true false e = omega arith
+      go true true e = omega arith
+
+  -- The answer is that to the questions.
+  pub arrival-code : (r : Router) (arriving p : ℕ) (k : List ℕ) (u : ℤ) → arrivalCode (arrival c r arriving p k u) ≡ cond (has arriving p) (arrivalAnswer (arrivalRefusal c r k u)) 0
+  unfolding arrival arrivalCode arrivalAnswer
+  arrival-code r arriving p k u = go (has arriving p) (eqb (arrivalRefusal c r k u) 0)
+    where
+      go : (h z : Bool) → arrivalCode (cond h (cond z (accepted (made c r p k u)) (refused (arrivalRefusal c r k u))) absent) ≡ cond h (cond z 1 (arrivalRefusal c r k u)) 0
+      go false z = refl
+      go true true = refl
+      go true false = refl
 
   -- An accepted packet takes a free place, a refused one takes none.
   pub arrival-free : (r : Router) (arriving p : ℕ) (k : List ℕ) (u : ℤ) → let a = arrival c r arriving p k u in length (admitted a r .free) + counted (eqb (arrivalCode a) 1) ≡ length (r .free)
   unfolding admitted placed arrivalCode counted
-  arrival-free r arriving p k u = arrival-by r arriving p k u (λ a. length (admitted a r .free) + counted (eqb (arrivalCode a) 1) ≡ length (r .free)) (omega arith) (λ q l. rw (ne-eqb q 1 (omega arith)) (omega arith)) (λ m. first (r .free) (m .room))
+  arrival-free r arriving p k u = arrival-by r arriving p k u (λ a. length (admitted a r .free) + counted (eqb (arrivalCode a) 1) ≡ length (r .free)) (omega arith) (λ q l. rw (ne-eqb q 1 (omega arith)) (omega arith)) (λ m. first (r .free) (arrival-room r k u (m .refusal)))
     where
-      first : (l : List ℕ) → eqb (length l) 0 ≡ false → length (placed l (made r p k u) r .free) + 1 ≡ length l
-      first [] e = absurd (true≢false e)
+      first : (l : List ℕ) → (l ≡ [] → ⊥) → length (placed l (made c r p k u) r .free) + 1 ≡ length l
+      first [] e = absurd (e refl)
       first (i ∷ l) e = omega arith
 
 -- ---- free places

@@ -7,9 +7,10 @@ use mathlib.Core.Option.{Option, none, some}
 use lib.ListN.{length}
 use lib.Dec.{eqb}
 use lib.IntN.{pos, _+ℤ_, _-ℤ_}
-use lib.Signed.{leZ, ltZ, _≤ℤ_, _<ℤ_}
+use lib.Signed.{leZ, _≤ℤ_, _<ℤ_}
 use Rattle.rules.specs.Indices.{counted, count}
 use Rattle.rules.specs.Areas.{byte, packet, has, Grant, nobody, bestEffort, onTime, early, elem, distinct}
+use Rattle.rules.specs.Asked.{asked, arrivalQuestions, arrivalAnswer}
 use Rattle.rules.specs.Whole.{Router, TickCall, Packet, Held, accepted, toServe, isHeld, Report, arrivalCode, packetBytes}
 
 -- An accepted tick: the router that it met, the call, what it did, and the outgoing area that the router over bytes left.
@@ -102,10 +103,8 @@ stored place = count 256 (λ i. isHeld (place i))
 unfoldable pub answerDue : NotedTick → ℕ → ℕ
 answerDue d p =
     let e = d .met .entry (byte (packet (d .call .arrivals) p) 0) in
-    cond (not (has (d .call .arriving) p)) 0
-    (cond (eqb (e .mask) 0) 6
-    (cond (ltZ (d .call .times p +ℤ pos (e .delay)) (d .met .clock)) 7
-    (cond (eqb (stored (d .met .place) + count p (λ q. eqb (arrivalCode (d .report .arrival q)) 1)) 256) 8 1)))
+    let n = stored (d .met .place) + count p (λ q. eqb (arrivalCode (d .report .arrival q)) 1) in
+    cond (has (d .call .arriving) p) (arrivalAnswer (asked (arrivalQuestions (not (eqb (e .mask) 0)) (leZ (d .met .clock) (d .call .times p +ℤ pos (e .delay))) (not (eqb n 256))))) 0
 
 -- No place is lost: each is free, once, or holds a packet.
 pub record Kept (place : ℕ → Option Held) (free : List ℕ) : Type 0 where

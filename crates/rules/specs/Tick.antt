@@ -6,11 +6,12 @@ use mathlib.Core.Option.{Option, none, some}
 use lib.Seq.{sets}
 use lib.Dec.{leb, ltb, eqb}
 use lib.IntN.{pos, negℤ}
-use lib.Signed.{ltZ}
+use lib.Signed.{ltZ, leZ}
 use Rattle.rules.specs.Clock.{plus, minus, offset}
 use Rattle.rules.specs.Order.{Key, comparator}
 use Rattle.rules.specs.Indices.{least, count}
 use Rattle.rules.specs.Areas.{Store, Reply, packetLength, byte, bits, packet, stamp, payload, packed, has, without, perPort, Grant, nobody, bestEffort, onTime, early, grantCode, noPacket, answersArea}
+use Rattle.rules.specs.Asked.{asked, arrivalQuestions, arrivalAnswer}
 use Rattle.rules.specs.Board.{Board, clock, horizon, free, idle, time, deadline, mask, outgoing, delay, routes}
 
 -- From the winner and its key, best-effort's wait and the horizon.
@@ -33,13 +34,14 @@ pub record Outcome : Type 0 where
 module _ (B : Board) where
   open Board B using (clockBytes as c, get, put)
 
-  -- Step 1, arrivals. Questions 6 to 8: what the arrival k on port p meets, 0 none, 1 stored, else the number of its refusal.
+  -- Step 1, arrivals. Questions 6 to 8 of the packet k, and what an arrival on port p meets: 0 none, 1 stored, else the number of its refusal.
+  unfoldable pub arrivalRefusal : List ℕ → List ℕ → ℕ
+  arrivalRefusal s k =
+      let i = byte k 0 in
+      asked (arrivalQuestions (not (eqb (get s (routes i)) 0)) (leZ (negℤ (pos (get s (delay i)))) (offset (bits c) (stamp c k) (get s clock))) (not (eqb (get s free) 0)))
+
   unfoldable pub arrival : List ℕ → ℕ → ℕ → List ℕ → ℕ
-  arrival s arriving p k =
-      cond (not (has arriving p)) 0
-      (cond (eqb (get s (routes (byte k 0))) 0) 6
-      (cond (ltZ (offset (bits c) (stamp c k) (get s clock)) (negℤ (pos (get s (delay (byte k 0)))))) 7
-      (cond (eqb (get s free) 0) 8 1)))
+  arrival s arriving p k = cond (has arriving p) (arrivalAnswer (arrivalRefusal s k)) 0
 
   -- The accepted packet k takes the top idle address.
   unfoldable pub placed : Store → List ℕ → Store

@@ -10,6 +10,7 @@ use lib.Signed.{ltZ, leZ}
 use Rattle.rules.specs.Clock.{cut}
 use Rattle.rules.specs.Order.{Order, by}
 use Rattle.rules.specs.Indices.{least}
+use Rattle.rules.specs.Asked.{asked, arrivalQuestions}
 use Rattle.rules.specs.Areas.{byte, bits, packet, payload, packed, has, without, latchPlace, perPort, Grant, nobody, bestEffort, onTime, early, grantCode, noPacket, answersArea}
 
 -- An accepted packet. Tick and port of arrival tell it from every other.
@@ -183,15 +184,19 @@ pub record Ticked : Type 0 where
 
 -- For a clock reading of c bytes in the headers.
 module _ (c : ℕ) where
-  -- What the packet k of time u on port p meets.
-  unfoldable pub arrival : Router → ℕ → ℕ → List ℕ → ℤ → Arrival
-  arrival r arriving p k u =
+  -- The questions of the packet k of time u, the packet that it makes on port p, and what it meets there.
+  unfoldable pub arrivalRefusal : Router → List ℕ → ℤ → ℕ
+  arrivalRefusal r k u =
       let e = r .entry (byte k 0) in
-      cond (not (has arriving p)) absent
-      (cond (eqb (e .mask) 0) (refused 6)
-      (cond (ltZ (u +ℤ pos (e .delay)) (r .clock)) (refused 7)
-      (cond (eqb (length (r .free)) 0) (refused 8)
-      (accepted (record { arrived = r .clock; input = p; time = u; deadline = u +ℤ pos (e .delay); identifier = e .identifier; payload = payload c k; mask = e .mask })))))
+      asked (arrivalQuestions (not (eqb (e .mask) 0)) (leZ (r .clock) (u +ℤ pos (e .delay))) (not (eqb (length (r .free)) 0)))
+
+  abbrev pub made : Router → ℕ → List ℕ → ℤ → Packet
+  made r p k u =
+      let e = r .entry (byte k 0) in
+      record { arrived = r .clock; input = p; time = u; deadline = u +ℤ pos (e .delay); identifier = e .identifier; payload = payload c k; mask = e .mask }
+
+  unfoldable pub arrival : Router → ℕ → ℕ → List ℕ → ℤ → Arrival
+  arrival r arriving p k u = let q = arrivalRefusal r k u in cond (has arriving p) (cond (eqb q 0) (accepted (made r p k u)) (refused q)) absent
 
   -- What the arrival on port p of a call meets at the router r, and the router after those on the ports below p.
   abbrev pub meets : TickCall → Router → ℕ → Arrival
