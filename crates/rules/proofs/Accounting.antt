@@ -6,10 +6,9 @@ use mathlib.Core.List.{List, [], _∷_, _++_}
 use mathlib.Core.Option.{Option, none, some}
 use native.Mathlib.Decide.{ℕ-discrete}
 use native.Mathlib.Omega.{arith}
-use lib.ListN.{length}
 use lib.Dec.{eqb}
 use lib.IntN.{ℤ}
-use borrow.Author.Tests.{eq-eqb, ne-eqb, eqb-true, eqb-false, le-ltb}
+use borrow.Author.Tests.{eq-eqb, ne-eqb, eqb-true, le-ltb}
 use Rattle.rules.specs.Account.{samePacket, isSent, times, isLeft, leftOn, Kept}
 use Rattle.rules.specs.Areas.{packet, has, Grant, nobody, bestEffort, onTime, early}
 use Rattle.rules.specs.Indices.{count, counted}
@@ -18,7 +17,7 @@ use Rattle.rules.proofs.IndexLaws.{count-only, counted-false}
 use Rattle.rules.proofs.Masks.{has-without-same, has-without-other, has-zero}
 use Rattle.rules.proofs.WholeLaws.{AllHeld, tally, tally-put, fresh-held, loses, lost-in, first-place, first-empty, emptied-at, arrival-passed, arrival-room}
 use Rattle.rules.proofs.Grants.{Rests, grant-rests, toServe-held}
-use Rattle.rules.proofs.Good.{Good, Input, after, accepted-passed, arrivals-kept, serving, chosen, serving-by, served-window}
+use Rattle.rules.proofs.Good.{Good, Input, after, arrivals-kept, serving, chosen, serving-by, served-window}
 
 -- The arrival is x's, and of a packet with the test m.
 unfoldable pub taken : (Packet → Bool) → Packet → Arrival → Bool

@@ -1,8 +1,8 @@
 -- The comparator's order does not depend on the clock while both packets stay of one sort: it is the order of their whole-number keys, since both are less by the same clock. Assumes nothing.
 use Prim.Native.Nat.{ℕ}
 use mathlib.Core.Path.{_≡_, refl, sym, ap, ap₂, _∙_}
-use mathlib.Core.Bool.{Bool, true, false, cond, not}
-use lib.Dec.{T, ltb}
+use mathlib.Core.Bool.{Bool, true, false, cond}
+use lib.Dec.{ltb}
 use lib.IntN.{ℤ, pos, _-ℤ_}
 use lib.Signed.{leZ, ltZ}
 use Rattle.rules.specs.Areas.{bits, half}

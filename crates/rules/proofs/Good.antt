@@ -15,7 +15,7 @@ use Rattle.rules.specs.Areas.{byte, bits, half, stamp, packet, payload, 
 use Rattle.rules.specs.Clock.{cut}
 use Rattle.rules.specs.Whole.{Packet, Held, Entry, Router, TickCall, withPlaces, advanced, accepted, grant, lose, served, isDue, emptied, meets, arrived, isHeld}
 use Rattle.rules.proofs.Booleans.{some-inj}
-use Rattle.rules.proofs.Integers.{orders, diff-nat, suc-nat, not-lt, not-le}
+use Rattle.rules.proofs.Integers.{orders, diff-nat, suc-nat, not-le}
 use Rattle.rules.proofs.AreaLaws.{length-packet, length-payload}
 use Rattle.rules.proofs.Masks.{without-le}
 use Rattle.rules.proofs.WholeLaws.{AllHeld, fresh-held, loses, put-all, lose-all, stored-in, lost-in, admitted-by, sent-by, Passed, arrival-passed, arrival-entry, kept-take, kept-same, held-put, held-lose, emptied-kept, emptied-frame, emptied-held}

@@ -5,13 +5,13 @@ use mathlib.Core.Bool.{Bool, true, false, cond}
 use mathlib.Core.Option.{Option, none, some}
 use native.Mathlib.Omega.{arith}
 use lib.Dec.{T}
-use lib.IntN.{ℤ, pos, _-ℤ_}
+use lib.IntN.{pos, _-ℤ_}
 use lib.Signed.{leZ, ltZ}
 use Rattle.rules.specs.Areas.{has, Grant, nobody, bestEffort, onTime, early}
 use Rattle.rules.specs.Indices.{least}
 use Rattle.rules.specs.Order.{by}
 use Rattle.rules.specs.Whole.{Packet, Held, Router, toServe, filter, byDeadline, byTime, granted, grant}
-use Rattle.rules.proofs.Booleans.{some-inj, none-some, is-true, true-is, false-is}
+use Rattle.rules.proofs.Booleans.{some-inj, none-some, is-true, true-is}
 use Rattle.rules.proofs.IndexLaws.{least-in}
 use Rattle.rules.proofs.OrderLaws.{strict-wholes, strict-by, least-beats}
 use Rattle.rules.proofs.Integers.{orders, diff-nat, not-lt}

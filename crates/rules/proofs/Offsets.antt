@@ -1,7 +1,7 @@
 -- The signed reading of a number of b bits, by tests of the number. Assumes nothing.
 use Prim.Native.Nat.{ℕ, zero, suc, _+_, _-_, _*_, _/_, _%_, _^_, _<_, _≤_}
 use mathlib.Core.Path.{_≡_, refl, sym, ap, _∙_}
-use mathlib.Core.Bool.{Bool, true, not, Bool·not-not, _&&_, _||_, or-true, or-false, and-true, and-false}
+use mathlib.Core.Bool.{Bool, true, not, Bool·not-not, _&&_, _||_, or-true, or-false}
 use native.Mathlib.Decide.{decLt}
 use native.Mathlib.Omega.{arith}
 use native.Mathlib.Nat.{mod-lt, div-add-mod'}

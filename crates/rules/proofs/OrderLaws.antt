@@ -1,13 +1,12 @@
 -- Orders: what makes one strict, orders by a key and one then another, the least in them, and the comparator's order. Assumes nothing.
 use Prim.Native.Nat.{ℕ, zero, suc, _<_}
-use mathlib.Core.Path.{_≡_, refl, sym, ap, ap₂, subst, _∙_}
+use mathlib.Core.Path.{_≡_, refl, sym, ap, subst, _∙_}
 use mathlib.Core.Bool.{Bool, true, false, cond, not, _&&_, _||_, true≢false}
 use mathlib.Core.Logic.{_⊎_, inl, inr, ⊎-elim}
 use mathlib.Core.Option.{Option, none, some}
 use native.Mathlib.Decide.{decLt}
 use native.Mathlib.Omega.{arith}
-use lib.IntN.{ℤ, pos}
-use lib.Dec.{T, ltb}
+use lib.IntN.{ℤ}
 use lib.Signed.{ltZ}
 use Rattle.rules.specs.Indices.{better, least}
 use Rattle.rules.specs.Order.{Order, by, then, Key, onTimeFirst, comparator}

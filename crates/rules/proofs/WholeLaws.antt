@@ -13,7 +13,7 @@ use lib.IntN.{ℤ, pos, _+ℤ_}
 use lib.Signed.{leZ}
 use borrow.Author.Tests.{eq-eqb, ne-eqb, eqb-false, lt-ltb, le-ltb}
 use Rattle.rules.specs.Account.{stored, Kept}
-use Rattle.rules.specs.Areas.{byte, packet, payload, has, without, elem, distinct, Grant, nobody, bestEffort, onTime, early}
+use Rattle.rules.specs.Areas.{byte, packet, has, without, elem, distinct, Grant, nobody, bestEffort, onTime, early}
 use Rattle.rules.specs.Asked.{asked, arrivalQuestions, arrivalAnswer}
 use Rattle.rules.specs.Indices.{count, counted}
 use Rattle.rules.specs.Whole.{Packet, Held, Router, withPlaces, put, Arrival, absent, refused, accepted, placed, admitted, lose, sent, isDue, remaining, freed, emptied, arrivalRefusal, made, arrival, arrivalCode, isHeld}
