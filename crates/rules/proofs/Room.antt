@@ -17,10 +17,10 @@ use Rattle.rules.specs.Questions.{stack, stackSound}
 use Rattle.rules.specs.SoundKept.{occupied, used}
 use Rattle.rules.specs.Tick.{placed}
 use Rattle.rules.proofs.Booleans.{and-left, and-right, not-false}
-use Rattle.rules.proofs.BoardLaws.{Laws}
+use Rattle.rules.proofs.BoardLaws.{Laws, sameField}
 use Rattle.rules.proofs.WholeLaws.{elem-first, elem-other}
 use Rattle.rules.proofs.Soundness.{at-elem, stack-lists}
-use Rattle.rules.proofs.StateLaws.{length-topFirst}
+use Rattle.rules.proofs.StateLaws.{Reads, none-out, reads-self, reads-put, length-topFirst}
 use Rattle.rules.proofs.IndexLaws.{count-same, count-change, count-none, counted-true, counted-false}
 
 -- ---- counts
@@ -91,8 +91,8 @@ module _ (B : Board) (L : Laws B) where
   pub placed-used : (r : Store) (k : List ℕ) → length (r .state) ≡ stateLength → 0 < get (r .state) free → get (r .state) (idle (get (r .state) free - 1)) < 256 → used B (placed B r k .state) ≤ used B (r .state)
   unfolding placed
   placed-used r k sized some hi =
-      let more = count-one-more (occupied B s₄) (occupied B s) i 256 (λ j l n. ap (λ (m : ℕ). not (eqb m 0)) (mask-other j l n)) in
-      omega (arith, free-is)
+      let more = count-one-more (occupied B (placed B r k .state)) (occupied B s) i 256 (λ j l ne. ap (λ (m : ℕ). not (eqb m 0)) (mask-other j l ne)) in
+      omega (arith, stores .reads free refl (omega arith))
     where
       s : List ℕ
       s = r .state
@@ -109,31 +109,9 @@ module _ (B : Board) (L : Laws B) where
       m : ℕ
       m = get s (routes (byte k 0))
 
-      s₁ : List ℕ
-      s₁ = put s free n
+      -- Four stores, read back.
+      stores : Reads B L none-out (placed B r k .state) (λ f. cond (sameField (mask i) f) m (cond (sameField (deadline i) f) d (cond (sameField (time i) f) (stamp c k) (cond (sameField free f) n (get s f)))))
+      stores = reads-put B L (reads-put B L (reads-put B L (reads-put B L (reads-self B L s sized) free n (omega arith)) (time i) (stamp c k) hi) (deadline i) d hi) (mask i) m hi
 
-      s₂ : List ℕ
-      s₂ = put s₁ (time i) (stamp c k)
-
-      s₃ : List ℕ
-      s₃ = put s₂ (deadline i) d
-
-      s₄ : List ℕ
-      s₄ = put s₃ (mask i) m
-
-      z₁ : length s₁ ≡ stateLength
-      z₁ = L .length-put s free n ∙ sized
-
-      z₂ : length s₂ ≡ stateLength
-      z₂ = L .length-put s₁ (time i) (stamp c k) ∙ z₁
-
-      z₃ : length s₃ ≡ stateLength
-      z₃ = L .length-put s₂ (deadline i) d ∙ z₂
-
-      free-is : get s₄ free ≡ n
-      free-is = L .get-put s₃ (mask i) m free z₃ hi (omega arith) ∙ L .get-put s₂ (deadline i) d free z₂ hi (omega arith) ∙ L .get-put s₁ (time i) (stamp c k) free z₁ hi (omega arith) ∙ L .get-put s free n free sized (omega arith) (omega arith)
-
-      mask-other : (j : ℕ) → j < 256 → j ≢ i → get s₄ (mask j) ≡ get s (mask j)
-      mask-other j l ne =
-          L .get-put s₃ (mask i) m (mask j) z₃ hi l ∙ ap (λ (t : Bool). cond t m (get s₃ (mask j))) (ne-eqb i j (λ e. ne (sym e)))
-          ∙ L .get-put s₂ (deadline i) d (mask j) z₂ hi l ∙ L .get-put s₁ (time i) (stamp c k) (mask j) z₁ hi l ∙ L .get-put s free n (mask j) sized (omega arith) l
+      mask-other : (j : ℕ) → j < 256 → j ≢ i → get (placed B r k .state) (mask j) ≡ get s (mask j)
+      mask-other j l ne = stores .reads (mask j) refl l ∙ rw (ne-eqb i j (λ e. ne (sym e)))
