@@ -5,15 +5,15 @@ use mathlib.Core.Bool.{Bool}
 use mathlib.Core.List.{List}
 use lib.ListN.{length}
 use Rattle.rules.specs.Board8.{board8}
-use Rattle.rules.specs.SoundKept as Kept
+use Rattle.rules.specs.Questions as Questions
 
 -- Slot i holds a packet.
 abbrev pub occupied : List ℕ → ℕ → Bool
-occupied = Kept.occupied board8
+occupied = Questions.occupied board8
 
 -- There is room on the stack for every slot that holds one.
 abbrev pub Room : List ℕ → Type 0
-Room s = Kept.used board8 s ≤ 256
+Room s = Questions.used board8 s ≤ 256
 
 -- Whole areas, and a state with room.
 abbrev pub Lent : List ℕ → List ℕ → List ℕ → List ℕ → List ℕ → Type 0

@@ -30,5 +30,4 @@ pub mod Agreement
 pub mod Feed
 pub mod Soundness
 pub mod Room
-pub mod SoundKept
 pub mod Theorem

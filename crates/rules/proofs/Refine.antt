@@ -1,7 +1,7 @@
 -- The relation makes the store sound, and a tick keeps it with equal replies. Assumes nothing.
 use Prim.Native.Nat.{ℕ, _-_, _/_, _%_, _<_}
 use mathlib.Core.Path.{_≡_, refl, sym, ap, ap₂, _∙_}
-use mathlib.Core.Bool.{true, not, Bool·not-not}
+use mathlib.Core.Bool.{true, not}
 use mathlib.Core.Logic.{_≢_}
 use mathlib.Core.List.{List, [], _∷_, _++_}
 use mathlib.Core.Option.{Option, none, some}
@@ -16,14 +16,12 @@ use Rattle.rules.specs.Areas.{bits, half, value, digits, packet, stamp, 
 use Rattle.rules.specs.Board.{Board, clock, horizon, latch, free, idle, time, deadline, mask, outgoing, delay, routes}
 use Rattle.rules.specs.Clock.{cut, plus, minus, offset}
 use Rattle.rules.specs.Questions.{sound, full}
-use Rattle.rules.specs.SoundKept.{occupied, Intact}
 use Rattle.rules.specs.Tick.{arrived, served, withdrawn, returned}
 use Rattle.rules.specs.Whole.{Held, Router, TickCall, emptied, packetBytes, outgoingBytes, answerBytes, isHeld}
 use Rattle.rules.proofs.BoardLaws.{Laws}
 use Rattle.rules.specs.Tick as Tick
 use Rattle.rules.specs.Whole as Whole
 use Rattle.rules.proofs.Booleans.{and-both}
-use Rattle.rules.proofs.IndexLaws.{count-same}
 use Rattle.rules.proofs.Integers.{orders}
 use Rattle.rules.proofs.WholeLaws.{AllHeld, emptied-kept}
 use Rattle.rules.proofs.Grants.{Rests, grant-rests, toServe-held}
@@ -32,7 +30,7 @@ use Rattle.rules.proofs.TimeLaws.{cut-suc, window-offset, window-delay,
 use Rattle.rules.proofs.AreaLaws.{value-digits, length-digits, length-packed, packet-perPort}
 use Rattle.rules.proofs.Soundness.{StoredSound, delayOf, offsetOf, lists-sound, sound-iff}
 use Rattle.rules.proofs.StateLaws.{reads-self, reads-as, reads-put, reads-off}
-use Rattle.rules.proofs.Relation.{on-settings, SettingsShown, SlotShows, Rel, with-state, rel-free, rel-room, rel-settings}
+use Rattle.rules.proofs.Relation.{on-settings, SettingsShown, SlotShows, Rel, with-state, rel-room, rel-settings}
 use Rattle.rules.proofs.RefineArrivals.{arrived-rel, arrived-code}
 use Rattle.rules.proofs.RefineServed.{served-rel, served-bytes, served-code}
 use Rattle.rules.proofs.RefineEmptied.{ended-rel, withdrawals-same}
@@ -58,7 +56,7 @@ module _ (B : Board) (L : Laws B) where
   open Board B using (clockBytes as c, stateLength, get, put)
 
   -- A packet held has a port left.
-  mask-held : (r : Store) (i : ℕ) (v : Option Held) → SlotShows B L r i v → ((h : Held) → v ≡ some h → Busy h) → eqb (get (r .state) (mask i)) 0 ≡ not (isHeld v)
+  pub mask-held : (r : Store) (i : ℕ) (v : Option Held) → SlotShows B L r i v → ((h : Held) → v ≡ some h → Busy h) → eqb (get (r .state) (mask i)) 0 ≡ not (isHeld v)
   unfolding isHeld
   mask-held r i none h b = eq-eqb (get (r .state) (mask i)) 0 h
   mask-held r i (some x) h b = ne-eqb (get (r .state) (mask i)) 0 (λ e. let n = b x refl in let q = h .left in omega arith)
@@ -112,13 +110,6 @@ module _ (B : Board) (L : Laws B) where
     pub rel-full : full B r ≡ true
     unfolding full
     rel-full = and-both (eqb (length s) stateLength) (eqb (length (r .memory)) 5120) (eq-eqb (length s) stateLength (S .sized)) (eq-eqb (length (r .memory)) 5120 (R .whole))
-
-    -- A slot holds a packet where its place does, so none is lost.
-    pub rel-intact : Intact B r
-    unfolding stored
-    rel-intact =
-        let same = count-same (occupied B s) (λ i. isHeld (w .place i)) 256 (λ i l. ap not (mask-held r i (w .place i) (R .place i l) (G .busy i l)) ∙ Bool·not-not (isHeld (w .place i))) in
-        record { full = rel-full; sound = rel-sound; slots = let n = rel-free B L R in let k = G .kept .all in omega arith }
 
     -- ---- a tick
 

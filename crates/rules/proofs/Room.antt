@@ -13,8 +13,7 @@ use Rattle.rules.specs.Areas.{Store, byte, bits, stamp, elem, distinct}
 use Rattle.rules.specs.Board.{Board, free, idle, time, deadline, mask, delay, routes}
 use Rattle.rules.specs.Clock.{plus}
 use Rattle.rules.specs.Indices.{count, counted}
-use Rattle.rules.specs.Questions.{stack, stackSound}
-use Rattle.rules.specs.SoundKept.{occupied, used}
+use Rattle.rules.specs.Questions.{stack, stackSound, occupied, used}
 use Rattle.rules.specs.Tick.{placed}
 use Rattle.rules.proofs.Booleans.{and-left, and-right, not-false}
 use Rattle.rules.proofs.BoardLaws.{Laws, sameField}

@@ -1,18 +1,12 @@
--- The claims for the board of document 01, one constant each: demand 3, and soundness kept. Assumes nothing.
+-- Demand 3 for the board of document 01, one constant. Assumes nothing.
 use native.Mathlib.Omega.{arith}
 use Rattle.rules.specs.Board8.{board8}
 use Rattle.rules.specs.Demand3.{Demand3}
-use Rattle.rules.specs.SoundKept.{SoundKept}
 use Rattle.rules.proofs.Board8Laws.{lawful8}
 use Rattle.rules.proofs.Agreement.{holds}
 use Rattle.rules.proofs.Feed.{feedable}
-use Rattle.rules.proofs.SoundKept.{sound-kept}
 
 -- The claim holds of every lawful board, this board is lawful, and any bytes can be given true times.
 pub demand3 : Demand3
 unfolding Demand3
 demand3 = (holds board8 lawful8, feedable 1 (omega arith) (omega arith))
-
--- Soundness is kept on every lawful board.
-pub soundKept : SoundKept board8
-soundKept = sound-kept board8 lawful8

@@ -12,4 +12,3 @@ pub mod Whole
 pub mod Calls
 pub mod Account
 pub mod Demand3
-pub mod SoundKept

@@ -1,13 +1,13 @@
 -- The questions, in order (document 01), and the entries that put them: a refused call gives its number and alters nothing. Assumes nothing.
-use Prim.Native.Nat.{ℕ, _-_}
-use mathlib.Core.Bool.{Bool, cond, _&&_, _||_, Bool·beq}
+use Prim.Native.Nat.{ℕ, _+_, _-_}
+use mathlib.Core.Bool.{Bool, cond, not, _&&_, _||_, Bool·beq}
 use mathlib.Core.List.{List, _∷_}
 use lib.ListN.{length, replicate}
 use lib.Dec.{leb, ltb, eqb}
 use lib.IntN.{pos, negℤ}
 use lib.Signed.{leZ}
 use Rattle.rules.specs.Clock.{minus, offset}
-use Rattle.rules.specs.Indices.{all, topFirst}
+use Rattle.rules.specs.Indices.{all, count, topFirst}
 use Rattle.rules.specs.Areas.{Store, numberReply, memoryLength, areasFull, bits, half, packet, stamp, elem, distinct}
 use Rattle.rules.specs.Board.{Board, clock, horizon, latch, free, idle, time, deadline, mask, delay, routes}
 use Rattle.rules.specs.Asked.{asked, controlQuestions, tickQuestions}
@@ -44,6 +44,13 @@ module _ (B : Board) where
 
   unfoldable pub stackSound : List ℕ → Bool
   stackSound s = leb (get s free) 256 && (distinct (stack s) && all 256 (listed s))
+
+  -- Slot i holds a packet; the free count and the packets stored.
+  abbrev pub occupied : List ℕ → ℕ → Bool
+  occupied s i = not (eqb (get s (mask i)) 0)
+
+  abbrev pub used : List ℕ → ℕ
+  used s = get s free + count 256 (occupied s)
 
   -- Slot i is empty, or its mask has five bits, deadline - time is a d in range, its time's offset is - d to 126 and the header in memory has its deadline.
   unfoldable pub slotSound : Store → ℕ → Bool

@@ -1,32 +1,22 @@
 -- Soundness kept: what a fresh router is, and what calls leave of any sound state and memory. Assumes nothing.
-use Prim.Native.Nat.{ℕ, _+_, _^_, _<_}
+use Prim.Native.Nat.{ℕ, _^_, _<_}
 use mathlib.Core.Path.{_≡_}
-use mathlib.Core.Bool.{Bool, true, not}
+use mathlib.Core.Bool.{true}
 use mathlib.Core.List.{List, List·Memᴰ}
-use lib.Dec.{eqb}
-use Rattle.rules.specs.Indices.{count}
 use Rattle.rules.specs.Areas.{Store, Bytes, bits}
-use Rattle.rules.specs.Board.{Board, free, mask}
+use Rattle.rules.specs.Board.{Board}
 use Rattle.rules.specs.Questions as Q
 use Rattle.rules.specs.Calls.{Call, ByteCall}
 use Rattle.rules.specs.Demand3.{storeAfter}
 
 module _ (B : Board) where
   open Board B using (clockBytes as c, get)
-
-  -- Slot i holds a packet.
-  abbrev pub occupied : List ℕ → ℕ → Bool
-  occupied s i = not (eqb (get s (mask i)) 0)
-
-  -- The free count and the packets stored.
-  abbrev pub used : List ℕ → ℕ
-  used s = get s free + count 256 (occupied s)
 
   -- State and memory have their lengths and are sound, and no slot is lost.
   pub record Intact (r : Store) : Type 0 where
     pub full : Q.full B r ≡ true
     pub sound : Q.sound B r ≡ true
-    pub slots : used (r .state) ≡ 256
+    pub slots : Q.used B (r .state) ≡ 256
 
   -- A fresh router is intact, and so is what any calls, accepted or refused, leave of a sound state and memory.
   pub record SoundKept : Type 0 where

@@ -11,31 +11,33 @@ use lib.ListN.{length}
 use lib.Dec.{eqb}
 use lib.IntN.{pos, _+ℤ_}
 use borrow.Author.Tests.{eqb-true, eqb-false}
 use Rattle.rules.specs.Account.{Kept, stored}
 use Rattle.rules.specs.Areas.{Store, Bytes, byte, low, bits, half, packet, payload, packed}
 use Rattle.rules.specs.Board.{Board, clock, horizon, latch, free, idle, time, deadline, mask, outgoing, delay, routes}
+use Rattle.rules.specs.Board8.{board8}
 use Rattle.rules.specs.Calls.{Call, control, tick, fed, feed, wholeStep}
 use Rattle.rules.specs.Clock.{cut, plus, offset}
 use Rattle.rules.specs.Demand3.{HeldShown, byteStep, storeAfter}
-use Rattle.rules.specs.Questions.{full, sound, stack}
+use Rattle.rules.specs.Questions.{full, sound, stack, occupied}
 use Rattle.rules.specs.Tick.{Outcome}
-use Rattle.rules.specs.SoundKept.{occupied, Intact, SoundKept}
+use Rattle.sound_kept.specs.SoundKept.{Intact, SoundKept}
 use Rattle.rules.specs.Whole.{Packet, Held, Router, packetBytes, isHeld}
 use Rattle.rules.proofs.BoardLaws.{Laws}
+use Rattle.rules.proofs.Board8Laws.{lawful8}
 use Rattle.rules.proofs.Booleans.{and-left, and-right, some-inj, none-some}
 use Rattle.rules.proofs.Integers.{orders, add-nat, neg-nat, diff-nat}
 use Rattle.rules.proofs.AreaLaws.{length-packet, length-payload, packed-parts, bytes-part, full-bits}
 use Rattle.rules.proofs.IndexLaws.{count-same}
 use Rattle.rules.proofs.ClockLaws.{pow-double}
 use Rattle.rules.proofs.TimeLaws.{cut-pos, cut-back, plus-cut, plus-minus}
 use Rattle.rules.proofs.StateLaws.{reads-self, reads-as, length-stack}
 use Rattle.rules.proofs.Good.{HeldInWindow, Busy, Good}
-use Rattle.rules.proofs.Relation.{on-settings, shown, SlotShows, Rel}
+use Rattle.rules.proofs.Relation.{on-settings, shown, SlotShows, Rel, rel-free}
 use Rattle.rules.proofs.Soundness.{Sound, StoredSound, delayOf, offsetOf, at-elem, stack-lists, stack-iff, sound-iff}
 use Rattle.rules.proofs.Room.{sound-used}
-use Rattle.rules.proofs.Refine.{rel-intact}
+use Rattle.rules.proofs.Refine.{mask-held, rel-full, rel-sound}
 use Rattle.rules.proofs.Agreement.{start-good, fresh-rel, agreed}
 use Rattle.rules.proofs.Feed.{feed-proper}
 
 module _ (B : Board) (L : Laws B) where
   open Board B using (clockBytes as c, stateLength, get)
@@ -224,12 +226,23 @@ module _ (B : Board) (L : Laws B) where
       let k′ = fed c w k in
       feed-bytes ks (wholeStep c w k′ .router) (byteStep B r k′ .store) ∙ ap (λ (o : Outcome). storeAfter B (o .store) ks) (fed-bytes w r k)
 
+  -- A slot holds a packet where its place does, so none is lost.
+  rel-intact : {r : Store} {w : Router} → Rel B L r w → Good c w → Intact B r
+  unfolding stored
+  rel-intact {r} {w} R G =
+      let same = count-same (occupied B (r .state)) (λ i. isHeld (w .place i)) 256 (λ i l. ap not (mask-held B L r i (w .place i) (R .place i l) (G .busy i l)) ∙ Bool·not-not (isHeld (w .place i))) in
+      record { full = rel-full B L R G; sound = rel-sound B L R G; slots = let n = rel-free B L R in let k = G .kept .all in omega arith }
+
   -- A fresh store shows the router at its start, a sound one the router read off it; and related to a good router after the calls, it is intact.
   pub sound-kept : SoundKept B
   sound-kept = record {
-    fresh = λ t h. rel-intact B L (fresh-rel B L t h) (start-good c t);
+    fresh = λ t h. rel-intact (fresh-rel B L t h) (start-good c t);
     calls = λ r bs bm f e ks b.
         let w = routerOf r in
         let a = agreed B L (feed c w ks) (shows r bs bm f e) (good r bs bm f e) (feed-proper c (L .some-bytes) (L .few-bytes) ks w b) in
-        subst (Intact B) (feed-bytes ks w r) (rel-intact B L (a .rel) (a .good));
+        subst (Intact B) (feed-bytes ks w r) (rel-intact (a .rel) (a .good));
   }
+
+-- The board of document 01 is lawful.
+pub soundKept : SoundKept board8
+soundKept = sound-kept board8 lawful8
