@@ -18,7 +18,7 @@ use Rattle.rules.specs.Areas.{Store, byte, bits, packet, payload, packed, has, 
 use Rattle.rules.specs.Board.{clock, free, idle, time, deadline, mask, outgoing, delay, routes}
 use Rattle.rules.specs.Board8.{board8}
 use Rattle.rules.specs.Tick.{arrival, placed, admitted, arrived}
-use Rattle.rules.proofs.FieldBytes.{stamp-is}
+use Rattle.rules.proofs.FieldBytes.{stamp-one}
 use Rattle.rules.proofs.Offsets.{above}
 use Rattle.rules.proofs.Board8Laws.{lawful8}
 use Rattle.rules.proofs.Room.{placed-used}
@@ -62,7 +62,7 @@ pub placed-is : (r : Store) (k : List ℕ) (d y m o n i : ℕ) (l s₁ s₂ s₃
     → s₄ ≡ board8 .put s₃ (mask i) m
     → store s₄ l ≡ placed board8 r k
 unfolding placed
-placed-is r k d y m o n i l s₁ s₂ s₃ s₄ ed ey em eo en ei el e₁ e₂ e₃ e₄ = rw (stamp-is k, e₄, e₃, e₂, e₁, el, ei, en, eo, em, ey, ed)
+placed-is r k d y m o n i l s₁ s₂ s₃ s₄ ed ey em eo en ei el e₁ e₂ e₃ e₄ = rw (stamp-one k, e₄, e₃, e₂, e₁, el, ei, en, eo, em, ey, ed)
 
 -- It leaves room: the stack has one address less, and the slots one packet more at the most.
 pub placed-room : (r : Store) (k : List ℕ) (n i : ℕ) (s l : List ℕ) → length (r .state) ≡ 1804 → 0 < board8 .get (r .state) free → n ≡ board8 .get (r .state) free → i ≡ board8 .get (r .state) (idle (n - 1)) → i < 256
@@ -76,7 +76,7 @@ placed-room r k n i s l sized some en ei hi e room =
 
 -- Below - d is the no to at least - d.
 pub late-is : (s k : List ℕ) (t d : ℕ) (a : Bool) → t ≡ board8 .get s clock → d ≡ board8 .get s (delay (byte k 0)) → a ≡ leZ (negℤ (pos d)) (offset (bits 1) (byte k 1) t) → not a ≡ late s k
-late-is s k t d a et ed ea = rw (stamp-is k, above, ea, et, ed)
+late-is s k t d a et ed ea = rw (stamp-one k, above, ea, et, ed)
 
 -- Of the questions' answers only the last is 1.
 only-stored : (here closed late full : Bool) → _≡_ {A = ℕ} (cond (not here) 0 (cond closed 6 (cond late 7 (cond full 8 1)))) 1 → full ≡ false

@@ -12,6 +12,7 @@ use Rattle.rules.specs.Areas.{Store, numberReply}
 use Rattle.rules.specs.Board8.{fresh8, board8}
 use Rattle.rules.specs.Tick.{Outcome}
 use Rattle.rules.specs.Questions.{full, fresh, makeFresh}
+use Rattle.rules.proofs.AreaLaws.{sets-all}
 use Rattle.layout.proofs.FreshState.{fresh-cons}
 use Rattle.fresh.specs.Slots.{emptied}
 
@@ -32,10 +33,6 @@ module _ (t : ℕ) where
 
   pub emptied-fresh : emptied 256 (board8 .freshState t) ≡ board8 .freshState t
   emptied-fresh = rw (fresh-cons t) slots
-
--- A copy over the whole of an area is what was copied.
-pub sets-all : (d s : List ℕ) → length d ≡ length s → sets d 0 s ≡ s
-sets-all d s e = sets-eq s d 0 (omega arith) ∙ rw (drop-of-length-le d {i = 0 + length s} (omega arith)) (append-nil s)
 
 -- ---- the outcome, by its number n
 

@@ -18,9 +18,8 @@ use Rattle.rules.specs.Areas.{Store, byte, bits, half, low, elem, distinct}
 use Rattle.rules.specs.Board.{clock, free, idle, time, deadline, mask}
 use Rattle.rules.specs.Board8.{board8}
 use Rattle.rules.specs.Questions.{stackSound, slotSound}
-use Rattle.rules.proofs.FieldBytes.{packet-byte, stamp-is}
+use Rattle.rules.proofs.FieldBytes.{packet-byte, stamp-one}
 use Rattle.rules.proofs.IndexLaws.{all-at}
-use Rattle.rules.proofs.Offsets.{offset-at-least, offset-at-most-126}
 use Rattle.rules.proofs.Board8Laws.{lawful8}
 use Rattle.rules.proofs.Room.{sound-used}
 use Rattle.layout.specs.Room.{Room}
@@ -65,29 +64,12 @@ module _ (s : List ℕ) (i a : ℕ) (e : a ≡ board8 .get s (idle i)) where
 
 -- ---- one slot
 
--- Where z is a time less the clock and w is z + d, by cases of z: w is below d + 127 just if z is below 127 or w turns over.
-window : (z d w : ℕ) → z < 256 → d < 128 → w ≡ (z + d) % 256 → ltb w (d + 127) ≡ ((ltb z 128 || leb (256 - z) d) && not (eqb z 127))
-window z d w hz hd e = go (decLt z 127) (decLt z 128) (decLt d (256 - z))
-  where
-    go : Dec (z < 127) → Dec (z < 128) → Dec (d < 256 - z) → ltb w (d + 127) ≡ ((ltb z 128 || leb (256 - z) d) && not (eqb z 127))
-    go (yes l) k m = rw (lt-ltb w (d + 127) (omega arith), lt-ltb z 128 (omega arith), ne-eqb z 127 (λ q. omega arith))
-    go (no l) (yes k) m = rw (le-ltb w (d + 127) (omega arith), lt-ltb z 128 k, eq-eqb z 127 (omega arith))
-    go (no l) (no k) (yes m) = rw (le-ltb w (d + 127) (omega arith), le-ltb z 128 (omega arith), lt-leb (256 - z) d m)
-    go (no l) (no k) (no m) = rw (lt-ltb w (d + 127) (omega arith), le-ltb z 128 (omega arith), le-leb (256 - z) d (omega arith), ne-eqb z 127 (λ q. omega arith))
-
--- So the offset of the time x at t is - d to 126 just if x + d less t is below d + 127.
-pub offset-window : (x t d y w : ℕ) → x < 256 → t < 256 → d < 128 → y ≡ plus (bits 1) x d → w ≡ minus (bits 1) y t
-    → ltb w (d + 127) ≡ (leZ (negℤ (pos d)) (offset (bits 1) x t) && leZ (offset (bits 1) x t) (pos 126))
-unfolding minus plus bits low
-offset-window x t d y w hx ht hd p e =
-    rw (offset-at-least x t (minus (bits 1) x t) refl d, offset-at-most-126 x t (minus (bits 1) x t) refl) (window (minus (bits 1) x t) d w (omega arith) hd (omega arith))
-
 -- The test of a slot, by what it reads.
 pub slot-is : (r : Store) (i m x y t d h : ℕ) (v w : Bool) → m ≡ board8 .get (r .state) (mask i) → x ≡ board8 .get (r .state) (time i) → y ≡ board8 .get (r .state) (deadline i) → t ≡ board8 .get (r .state) clock
     → d ≡ minus (bits 1) y x → v ≡ (leZ (negℤ (pos d)) (offset (bits 1) x t) && leZ (offset (bits 1) x t) (pos 126)) → h ≡ byte (r .memory) (20 * i + 1)
     → w ≡ (eqb m 0 || (leb m 31 && ltb d 128 && v && eqb h y)) → w ≡ slotSound board8 r i
 unfolding slotSound half low
-slot-is r i m x y t d h v w em ex ey et ed ev eh e = e ∙ rw (ev, eh, ed, em, ex, ey, et, stamp-is, packet-byte (r .memory) i 1 (omega arith)) (simp and-assoc)
+slot-is r i m x y t d h v w em ex ey et ed ev eh e = e ∙ rw (ev, eh, ed, em, ex, ey, et, stamp-one, packet-byte (r .memory) i 1 (omega arith)) (simp and-assoc)
 
 -- ---- room
 

@@ -3,7 +3,7 @@ use Prim.Native.Nat.{_*_}
 use mathlib.Core.Path.{_∙_}
 use native.Mathlib.Omega.{arith}
 use lib.ListN.{length-set, drop}
-use Rattle.rules.proofs.FieldBytes.{packed-is}
+use Rattle.rules.proofs.FieldBytes.{packed-one}
 use Rattle.arrive.proofs.Laws.{array-data, sets-header}
 use borrow.Author.Needs.{needs}
 use Rattle.arrive.proofs.store_packet.Statement.{statement}
@@ -58,7 +58,7 @@ returns c =
     let s = d .before .before .before .before .before in
     let a = s .args in
     let l = sets-header (a .memory .now) (drop 2 (a .packet .now)) (20 * a .s .0) (a .identifier .0) (a .deadline .0) in
-    rw (packed-is, b .copy-in2 .ensures, d .copy-in .ensures, array-data (a .packet .now) (s .pre .1)) l
+    rw (packed-one, b .copy-in2 .ensures, d .copy-in .ensures, array-data (a .packet .now) (s .pre .1)) l
 
 pub store-packet-spec : {M : Type 1} → statement M
 store-packet-spec =
