@@ -1,0 +1,3 @@
+pub mod FirstFailure
+pub mod StackMarks
+pub mod SlotTests
