@@ -1,3 +1,5 @@
 pub mod FirstFailure
 pub mod StackMarks
 pub mod SlotTests
+pub mod Packets
+pub mod Arrivals
