@@ -9,7 +9,8 @@ ghost use Rattle.rules.specs.Board.{free};
 ghost use Rattle.rules.specs.Board8.{board8};
 ghost use Rattle.rules.specs.Tick.{arrival, placed, admitted, arrived};
 ghost use Rattle.layout.specs.Room.{Room};
-ghost use Rattle.passes.specs.Arrivals.{store, late, met};
+ghost use Rattle.passes.specs.Stores.{store};
+ghost use Rattle.passes.specs.Arrivals.{late, met};
 ghost use Rattle.arrive.specs.Numbers.{number};
 use layout::ClockReading;
 use layout::ConnectionId;
@@ -124,7 +125,12 @@ fn admit(state: &mut [u8], memory: &mut [u8], packet: &[u8], arriving: u8, port:
 }
 
 // Step 1 for the five ports, and what each meets.
-pub fn arrive(state: &mut [u8], memory: &mut [u8], arrivals: &[u8], arriving: u8) -> [u8; Router::PORTS]
+pub fn arrive(
+    state: &mut [u8],
+    memory: &mut [u8],
+    arrivals: &[u8],
+    arriving: u8,
+) -> [u8; Router::PORTS]
     requires { ⌜ (length (now state) ≡ board8 .stateLength) × (length (now memory) ≡ memoryLength) × (length (now arrivals) ≡ arrivalsLength) ⌝ }
     ensures answers { λ r. ⌜ r ≡ perPort (λ p. met board8 (store (now (state .entry)) (now (memory .entry))) arriving (now (arrivals .entry)) p ∷ []) ⌝ }
     ensures after { λ _. ⌜ store (now (state .exit)) (now (memory .exit)) ≡ arrived board8 5 arriving (now (arrivals .entry)) (store (now (state .entry)) (now (memory .entry))) ⌝ }

@@ -20,7 +20,8 @@ use Rattle.rules.proofs.AreaLaws.{filled, filled-next, filled-all}
 use Rattle.rules.proofs.BoardLaws.{Laws}
 use Rattle.rules.proofs.Offsets.{above}
 use Rattle.rules.proofs.Room.{placed-used}
-use Rattle.passes.specs.Arrivals.{store, late, met}
+use Rattle.passes.specs.Stores.{store}
+use Rattle.passes.specs.Arrivals.{late, met}
 
 -- Of the questions' answers only the last is 1.
 only-stored : (here closed late full : Bool) → _≡_ {A = ℕ} (cond (not here) 0 (cond closed 6 (cond late 7 (cond full 8 1)))) 1 → full ≡ false

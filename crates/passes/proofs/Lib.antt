@@ -3,3 +3,4 @@ pub mod StackMarks
 pub mod SlotTests
 pub mod Packets
 pub mod Arrivals
+pub mod MakeFresh

@@ -9,10 +9,6 @@ use Rattle.rules.specs.Areas.{Store, byte, bits, packet, stamp}
 use Rattle.rules.specs.Board.{Board, clock, delay}
 use Rattle.rules.specs.Tick.{arrival, arrived}
 
--- The state and the packet memory that the code is lent, as one store.
-abbrev pub store : List ℕ → List ℕ → Store
-store s m = record { state = s; memory = m }
-
 module _ (B : Board) where
   open Board B using (clockBytes as c, get)
 

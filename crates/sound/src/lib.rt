@@ -11,7 +11,7 @@ ghost use Rattle.rules.specs.Areas.{memoryLength, bits, elem};
 ghost use Rattle.rules.specs.Board8.{board8};
 ghost use Rattle.rules.specs.Questions.{connectionSound, horizonSound, settingsSound, stack, listed, stackSound, slotSound, slotsSound, sound};
 ghost use Rattle.layout.specs.Room.{Room};
-ghost use Rattle.passes.specs.Arrivals.{store};
+ghost use Rattle.passes.specs.Stores.{store};
 ghost use Rattle.passes.specs.Stack.{Marked};
 use layout::ClockReading;
 use layout::ConnectionId;

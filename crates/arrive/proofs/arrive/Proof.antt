@@ -2,7 +2,7 @@
 use Prim.Native.Nat.{_-_}
 use mathlib.Core.Path.{_∙_}
 use Rattle.rules.specs.Board8.{board8}
-use Rattle.passes.specs.Arrivals.{store}
+use Rattle.passes.specs.Stores.{store}
 use Rattle.passes.proofs.Arrivals.{ArrivedBelow, arrived-none, arrived-next, arrived-all}
 use Rattle.passes.proofs.Packets.{part-packet}
 use borrow.Author.Needs.{needs}

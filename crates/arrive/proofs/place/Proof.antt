@@ -3,7 +3,7 @@ use mathlib.Core.Path.{sym}
 use Rattle.rules.specs.Board8.{board8}
 use Rattle.rules.proofs.Board8Laws.{lawful8}
 use Rattle.rules.proofs.FieldBytes.{stamp-one}
-use Rattle.passes.specs.Arrivals.{store}
+use Rattle.passes.specs.Stores.{store}
 use Rattle.passes.proofs.Arrivals.{placed-is, placed-leaves-room}
 use borrow.Author.Needs.{needs}
 use Rattle.arrive.proofs.place.Statement.{statement}

@@ -13,7 +13,7 @@ use Rattle.rules.specs.Board8.{board8}
 use Rattle.rules.specs.Clock.{offset}
 use Rattle.rules.specs.Questions.{slotSound}
 use Rattle.rules.proofs.FieldBytes.{half-one, stamp-one, packet-byte}
-use Rattle.passes.specs.Arrivals.{store}
+use Rattle.passes.specs.Stores.{store}
 use Rattle.passes.proofs.SlotTests.{slot-sound-is}
 use borrow.Author.Needs.{needs}
 use Rattle.sound.proofs.slot_sound.Statement.{statement}

@@ -3,7 +3,7 @@ use Prim.Native.Nat.{_-_}
 use Rattle.rules.specs.Board8.{board8}
 use Rattle.rules.specs.Questions.{slotSound, slotsSound}
 use Rattle.passes.proofs.FirstFailure.{Passed, passed-none, passed-next, fails-at, passed-all}
-use Rattle.passes.specs.Arrivals.{store}
+use Rattle.passes.specs.Stores.{store}
 use borrow.Author.Needs.{needs}
 use Rattle.sound.proofs.slots_sound.Statement.{statement}
 use Rattle.sound.proofs.slots_sound.Tie as tie
