@@ -1,4 +1,5 @@
 -- `sound::connection_sound` meets its contract: each return has the tests made so far. Assumes nothing.
+use native.Mathlib.Omega.{arith}
 use borrow.Author.Tests.{lt-ltb, le-ltb}
 use Rattle.rules.proofs.FieldBytes.{half-one}
 use borrow.Author.Needs.{needs}
@@ -9,14 +10,14 @@ read-requires : tie.Need-read-requires
 read-requires c κs = search needs
 
 returns : tie.Need-returns
-returns c = rw (half-one, ← c .before .read .ensures, le-ltb (c .before .read .result) 128 (c .if1 .taken))
+returns c = rw (half-one, ← c .before .read .ensures, le-ltb (c .before .read .result) 128 (omega arith))
 
 read-requires-2 : tie.Need-read-requires-2
 read-requires-2 c κs = search needs
 
 returns-2 : tie.Need-returns-2
 returns-2 c = let d = c .before .before .read in
-    rw (half-one, ← d .ensures, lt-ltb (d .result) 128 (c .before .if1 .left), ← c .read2 .ensures)
+    rw (half-one, ← d .ensures, lt-ltb (d .result) 128 (omega arith), ← c .read2 .ensures)
 
 pub connection-sound-spec : {M : Type 1} → statement M
 connection-sound-spec =

@@ -46,7 +46,7 @@ returns : tie.Need-returns
 returns c = slot-sound-is board8 _ _ _ _ _ _ _ _ _ _ (c .before .read .ensures) refl refl refl refl refl refl (rw (eq-eqb _ _ (c .if1 .taken)))
 
 returns-2 : tie.Need-returns-2
-returns-2 c = slot-sound-is board8 _ _ _ _ _ _ _ _ _ _ (c .before .before .read .ensures) refl refl refl refl refl refl (rw (ne-eqb _ _ (c .before .if1 .left), lt-leb _ 31 (c .if2 .taken)))
+returns-2 c = slot-sound-is board8 _ _ _ _ _ _ _ _ _ _ (c .before .before .read .ensures) refl refl refl refl refl refl (rw (ne-eqb _ _ (c .before .if1 .left), lt-leb (c .before .before .read .result) 31 (omega arith)))
 
 read-requires-2 : tie.Need-read-requires-2
 read-requires-2 c κs = search needs
@@ -58,7 +58,7 @@ since-requires : tie.Need-since-requires
 since-requires c κs = search needs
 
 returns-3 : tie.Need-returns-3
-returns-3 c = by-delay (c .before) _ _ _ _ refl refl refl (rw (le-ltb (c .before .since .result) 128 (c .if3 .taken)))
+returns-3 c = by-delay (c .before) _ _ _ _ refl refl refl (rw (le-ltb (c .before .since .result) 128 (omega arith)))
 
 read-requires-4 : tie.Need-read-requires-4
 read-requires-4 c κs = search needs
@@ -69,7 +69,7 @@ offset-sound-requires c κs = search needs
 returns-4 : tie.Need-returns-4
 returns-4 c = let d = c .before .before .before .before in
     by-delay d _ _ _ _ (c .before .before .read4 .ensures) (c .before .offset-sound .ensures) refl
-    (rw (lt-ltb (d .since .result) 128 (c .before .before .before .if3 .left), not-true (c .before .offset-sound .result) (c .if4 .taken)))
+    (rw (lt-ltb (d .since .result) 128 (omega arith), not-true (c .before .offset-sound .result) (c .if4 .taken)))
 
 cast-result : tie.Need-cast-result
 cast-result c = search needs
@@ -87,7 +87,7 @@ returns-5 : tie.Need-returns-5
 returns-5 c = let o = c .before .before .before .before in
     let d = o .before .before .before in
     by-delay d _ _ _ _ (o .before .read4 .ensures) (o .offset-sound .ensures) (sym (stamp-one _ ∙ packet-byte _ _ 1 (omega arith)))
-    (rw (lt-ltb (d .since .result) 128 (o .before .before .if3 .left), not-false (o .offset-sound .result) (c .before .before .before .if4 .left)))
+    (rw (lt-ltb (d .since .result) 128 (omega arith), not-false (o .offset-sound .result) (c .before .before .before .if4 .left)))
 
 pub slot-sound-spec : {M : Type 1} → statement M
 slot-sound-spec =

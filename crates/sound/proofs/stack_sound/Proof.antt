@@ -17,7 +17,7 @@ free-count-requires c κs = search needs
 
 returns : tie.Need-returns
 returns c = let n = c .before .free-count in
-    (rw (← stack-sound-is board8 _ _ _ _ (n .ensures) refl refl, lt-leb (n .result) 256 (c .if1 .taken)), λ e. absurd (true≢false (sym e)))
+    (rw (← stack-sound-is board8 _ _ _ _ (n .ensures) refl refl, lt-leb (n .result) 256 (omega arith)), λ e. absurd (true≢false (sym e)))
 
 mark-requires : tie.Need-mark-requires
 mark-requires c κs = search needs
