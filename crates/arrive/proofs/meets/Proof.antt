@@ -1,6 +1,7 @@
 -- `arrive::meets` meets its contract: at each return the questions asked so far decide the tests of `arrival`. Assumes nothing.
 use mathlib.Core.Bool.{cond}
 use mathlib.Core.Path.{_≡_}
+use native.Mathlib.Omega.{arith}
 use lib.Dec.{eqb}
 use borrow.Author.Tests.{eq-eqb, ne-eqb}
 use Rattle.rules.specs.Board.{free}
@@ -18,7 +19,7 @@ at-open-entry : (c : tie.Else2) → let a = c .before .before .before .before .b
 unfolding arrival
 at-open-entry c =
     let h = c .before .before .before in
-    rw (← h .before .has-port .ensures, h .if1 .left, ← c .before .get .ensures, ne-eqb _ _ (c .if2 .left))
+    rw (← h .before .has-port .ensures, h .if1 .left, ← c .before .get .ensures, ne-eqb (c .before .get .result) 0 (λ e. omega arith))
 
 has-port-requires : tie.Need-has-port-requires
 has-port-requires c κs = search needs
@@ -36,7 +37,7 @@ get-requires c κs = search needs
 returns-2 : tie.Need-returns-2
 unfolding arrival
 returns-2 c = let h = c .before .before .before in
-    rw (← h .before .has-port .ensures, h .if1 .left, ← c .before .get .ensures, eq-eqb _ _ (c .if2 .taken))
+    rw (← h .before .has-port .ensures, h .if1 .left, ← c .before .get .ensures, eq-eqb (c .before .get .result) 0 (omega arith))
 
 is-late-requires : tie.Need-is-late-requires
 is-late-requires c κs = search needs
@@ -49,11 +50,11 @@ free-count-requires c κs = search needs
 
 returns-4 : tie.Need-returns-4
 returns-4 c = let l = c .before .before in
-    rw (at-open-entry (l .before .before), ← l .before .is-late .ensures, l .if3 .left, ← c .before .free-count .ensures, eq-eqb _ _ (c .if4 .taken))
+    rw (at-open-entry (l .before .before), ← l .before .is-late .ensures, l .if3 .left, ← c .before .free-count .ensures, eq-eqb (c .before .free-count .result) 0 (omega arith))
 
 returns-5 : tie.Need-returns-5
 returns-5 c = let l = c .before .before in
-    rw (at-open-entry (l .before .before), ← l .before .is-late .ensures, l .if3 .left, ← c .before .free-count .ensures, ne-eqb _ _ (c .if4 .left))
+    rw (at-open-entry (l .before .before), ← l .before .is-late .ensures, l .if3 .left, ← c .before .free-count .ensures, ne-eqb (c .before .free-count .result) 0 (λ e. omega arith))
 
 pub meets-spec : {M : Type 1} → statement M
 meets-spec =

@@ -1,9 +1,9 @@
 -- `sound::slot_sound` meets its contract: each return has the tests made so far, and what isn't read yet counts for nothing. Assumes nothing.
-use Prim.Native.Nat.{ℕ, _-_}
+use Prim.Native.Nat.{ℕ}
 use mathlib.Core.Bool.{Bool, _&&_}
 use mathlib.Core.Path.{_≡_, refl, sym, _∙_}
 use native.Mathlib.Omega.{arith}
-use lib.Dec.{leb, ltb, eqb}
+use lib.Dec.{ltb, eqb}
 use lib.IntN.{pos, negℤ}
 use lib.Signed.{leZ}
 use borrow.Author.Tests.{not-true, not-false, eq-eqb, ne-eqb, lt-leb, le-leb, lt-ltb, le-ltb}
@@ -12,7 +12,7 @@ use Rattle.rules.specs.Board.{clock}
 use Rattle.rules.specs.Board8.{board8}
 use Rattle.rules.specs.Clock.{offset}
 use Rattle.rules.specs.Questions.{slotSound}
-use Rattle.rules.proofs.FieldBytes.{half-one, stamp-one, packet-byte}
+use Rattle.rules.proofs.FieldBytes.{stamp-one, packet-byte}
 use Rattle.passes.specs.Stores.{store}
 use Rattle.passes.proofs.SlotTests.{slot-sound-is}
 use borrow.Author.Needs.{needs}
