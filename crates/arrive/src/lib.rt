@@ -4,15 +4,18 @@ ghost use mathlib.Core.List.{_∷_, []};
 ghost use Prim.Native.Nat.{_*_, _<_};
 ghost use lib.ListN.{length};
 ghost use lib.Seq.{sets};
-ghost use Rattle.rules.specs.Areas.{payload, packed, perPort};
+ghost use Rattle.rules.specs.Areas.{packetLength, memoryLength, arrivalsLength, payload, packed, perPort};
 ghost use Rattle.rules.specs.Board.{free};
 ghost use Rattle.rules.specs.Board8.{board8};
 ghost use Rattle.rules.specs.Tick.{arrival, placed, admitted, arrived};
 ghost use Rattle.layout.specs.Room.{Room};
-ghost use Rattle.arrive.specs.Arrivals.{number, late, store, met};
+ghost use Rattle.passes.specs.Stores.{store};
+ghost use Rattle.passes.specs.Arrivals.{late, met};
+ghost use Rattle.arrive.specs.Numbers.{number};
 use layout::ClockReading;
 use layout::ConnectionId;
 use layout::Field;
+use layout::Router;
 use layout::SlotAddress;
 
 // What an arrival meets: no packet, a slot, or the refusal of question 6, 7 or 8.
@@ -38,8 +41,8 @@ fn number(a: Arrival) -> u8
 
 // Question 7: is the offset below -d?
 fn is_late(state: &[u8], packet: &[u8]) -> bool
-    requires { ⌜ length (now packet) ≡ 20 ⌝ }
-    ensures { λ r. ⌜ r ≡ late (now (state .entry)) (now (packet .entry)) ⌝ }
+    requires { ⌜ length (now packet) ≡ packetLength ⌝ }
+    ensures { λ r. ⌜ r ≡ late board8 (now (state .entry)) (now (packet .entry)) ⌝ }
 {
     let time = ClockReading(packet[1]);
     let t = ClockReading(layout::get(state, Field::Clock));
@@ -49,7 +52,7 @@ fn is_late(state: &[u8], packet: &[u8]) -> bool
 
 // Questions 6 to 8.
 fn meets(state: &[u8], packet: &[u8], arriving: u8, port: u8) -> Arrival
-    requires { ⌜ (length (now state) ≡ 1804) × (length (now packet) ≡ 20) × (port < 5) ⌝ }
+    requires { ⌜ (length (now state) ≡ board8 .stateLength) × (length (now packet) ≡ packetLength) × (port < 5) ⌝ }
     ensures { λ r. ⌜ number r ≡ arrival board8 (now (state .entry)) arriving port (now (packet .entry)) ⌝ }
 {
     if !layout::has_port(arriving, port) {
@@ -67,7 +70,7 @@ fn meets(state: &[u8], packet: &[u8], arriving: u8, port: u8) -> Arrival
     Arrival::Stored
 }
 
-// The memory gets the packet with its outgoing identifier and its deadline. The data go by way of an array: the compiler
+// The memory gets the packet with its outgoing identifier and its deadline. It goes by way of an array: the compiler
 // can't tell the areas apart, and moves whole words only between the array and each of them.
 fn store_packet(
     memory: &mut [u8],
@@ -76,20 +79,20 @@ fn store_packet(
     deadline: ClockReading,
     packet: &[u8],
 )
-    requires { ⌜ (length (now memory) ≡ 5120) × (length (now packet) ≡ 20) ⌝ }
-    ensures { λ _. ⌜ now (memory .exit) ≡ sets (now (memory .entry)) (20 * s .0) (packed 1 (identifier .0) (deadline .0) (payload 1 (now (packet .entry)))) ⌝ }
+    requires { ⌜ (length (now memory) ≡ memoryLength) × (length (now packet) ≡ packetLength) ⌝ }
+    ensures { λ _. ⌜ now (memory .exit) ≡ sets (now (memory .entry)) (packetLength * s .0) (packed 1 (identifier .0) (deadline .0) (payload 1 (now (packet .entry)))) ⌝ }
 {
-    let mut data = [0u8; 18];
-    layout::copy_in(&packet[2..], &mut data, 0);
-    let at = 20 * (s.0 as usize);
+    let mut bytes = [0u8; Router::PACKET];
+    layout::copy_in(packet, &mut bytes, 0);
+    let at = Router::PACKET * (s.0 as usize);
+    layout::copy_in(&bytes, memory, at);
     memory[at] = identifier.0;
     memory[at + 1] = deadline.0;
-    layout::copy_in(&data, memory, at + 2);
 }
 
 // The accepted packet takes the top idle address.
 fn place(state: &mut [u8], memory: &mut [u8], packet: &[u8])
-    requires { ⌜ (length (now state) ≡ 1804) × (length (now memory) ≡ 5120) × (length (now packet) ≡ 20) × (0 < board8 .get (now state) free) ⌝ }
+    requires { ⌜ (length (now state) ≡ board8 .stateLength) × (length (now memory) ≡ memoryLength) × (length (now packet) ≡ packetLength) × (0 < board8 .get (now state) free) ⌝ }
     ensures after { λ _. ⌜ store (now (state .exit)) (now (memory .exit)) ≡ placed board8 (store (now (state .entry)) (now (memory .entry))) (now (packet .entry)) ⌝ }
     ensures room { λ _. ⌜ (Room (now (state .entry)) → Room (now (state .exit))) ⌝ }
 {
@@ -109,7 +112,7 @@ fn place(state: &mut [u8], memory: &mut [u8], packet: &[u8])
 
 // One port's arrival.
 fn admit(state: &mut [u8], memory: &mut [u8], packet: &[u8], arriving: u8, port: u8) -> Arrival
-    requires { ⌜ (length (now state) ≡ 1804) × (length (now memory) ≡ 5120) × (length (now packet) ≡ 20) × (port < 5) ⌝ }
+    requires { ⌜ (length (now state) ≡ board8 .stateLength) × (length (now memory) ≡ memoryLength) × (length (now packet) ≡ packetLength) × (port < 5) ⌝ }
     ensures number { λ r. ⌜ number r ≡ arrival board8 (now (state .entry)) arriving port (now (packet .entry)) ⌝ }
     ensures after { λ _. ⌜ store (now (state .exit)) (now (memory .exit)) ≡ admitted board8 (store (now (state .entry)) (now (memory .entry))) arriving port (now (packet .entry)) ⌝ }
     ensures room { λ _. ⌜ (Room (now (state .entry)) → Room (now (state .exit))) ⌝ }
@@ -122,19 +125,24 @@ fn admit(state: &mut [u8], memory: &mut [u8], packet: &[u8], arriving: u8, port:
 }
 
 // Step 1 for the five ports, and what each meets.
-pub fn arrive(state: &mut [u8], memory: &mut [u8], arrivals: &[u8], arriving: u8) -> [u8; 5]
-    requires { ⌜ (length (now state) ≡ 1804) × (length (now memory) ≡ 5120) × (length (now arrivals) ≡ 100) ⌝ }
-    ensures answers { λ r. ⌜ r ≡ perPort (λ p. met (store (now (state .entry)) (now (memory .entry))) arriving (now (arrivals .entry)) p ∷ []) ⌝ }
+pub fn arrive(
+    state: &mut [u8],
+    memory: &mut [u8],
+    arrivals: &[u8],
+    arriving: u8,
+) -> [u8; Router::PORTS]
+    requires { ⌜ (length (now state) ≡ board8 .stateLength) × (length (now memory) ≡ memoryLength) × (length (now arrivals) ≡ arrivalsLength) ⌝ }
+    ensures answers { λ r. ⌜ r ≡ perPort (λ p. met board8 (store (now (state .entry)) (now (memory .entry))) arriving (now (arrivals .entry)) p ∷ []) ⌝ }
     ensures after { λ _. ⌜ store (now (state .exit)) (now (memory .exit)) ≡ arrived board8 5 arriving (now (arrivals .entry)) (store (now (state .entry)) (now (memory .entry))) ⌝ }
     ensures room { λ _. ⌜ (Room (now (state .entry)) → Room (now (state .exit))) ⌝ }
 {
-    let mut answers = [0u8; 5];
-    let mut p: u8 = 0;
-    while p < 5 {
-        let a = 20 * (p as usize);
-        let e = a + 20;
-        let met = admit(state, memory, &arrivals[a..e], arriving, p);
-        answers[p as usize] = number(met);
+    let mut answers = [0u8; Router::PORTS];
+    let mut p = 0;
+    while p < Router::PORTS {
+        let a = Router::PACKET * p;
+        let e = a + Router::PACKET;
+        let met = admit(state, memory, &arrivals[a..e], arriving, p as u8);
+        answers[p] = number(met);
         p += 1;
     }
     answers

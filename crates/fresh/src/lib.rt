@@ -5,6 +5,7 @@ ghost use Rattle.rules.specs.Areas.{numberReply};
 ghost use Rattle.rules.specs.Board8.{board8};
 ghost use Rattle.rules.specs.Tick.{Outcome};
 ghost use Rattle.rules.specs.Questions.{makeFresh};
+ghost use Rattle.passes.specs.Stores.{store};
 ghost use Rattle.layout.specs.Slots.{empty};
 ghost use Rattle.fresh.specs.Slots.{emptied};
 use layout::ClockReading;
@@ -12,8 +13,9 @@ use layout::Refusal;
 use layout::Router;
 use layout::Slot;
 
-fn put_slots(state: &mut [u8], slots: [Slot; 256])
-    requires { ⌜ (length (now state) ≡ 1804) × (slots ≡ replicate 256 empty) ⌝ }
+// Copies the slots of a fresh router, each to its place from its time on.
+fn put_slots(state: &mut [u8], slots: [Slot; Router::SLOTS])
+    requires { ⌜ (length (now state) ≡ board8 .stateLength) × (slots ≡ replicate 256 empty) ⌝ }
     ensures { λ _. ⌜ now (state .exit) ≡ emptied 256 (now (state .entry)) ⌝ }
 {
     let mut i = 0;
@@ -39,8 +41,8 @@ fn clear(area: &mut [u8])
 // Makes state and memory those of a fresh router.
 pub fn make_fresh(state: &mut [u8], memory: &mut [u8], clock: u8) -> u8
     ensures { λ r. ⌜ _≡_ {A = Outcome}
-        (record { reply = numberReply r; store = record { state = now (state .exit); memory = now (memory .exit) } })
-        (makeFresh board8 (record { state = now (state .entry); memory = now (memory .entry) }) clock) ⌝ }
+        (record { reply = numberReply r; store = store (now (state .exit)) (now (memory .exit)) })
+        (makeFresh board8 (store (now (state .entry)) (now (memory .entry))) clock) ⌝ }
 {
     if state.len() != Router::STATE {
         return Refusal::Lengths.number();

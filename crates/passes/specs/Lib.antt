@@ -1,1 +1,4 @@
 pub mod Empty
+pub mod Stores
+pub mod Stack
+pub mod Arrivals

@@ -1,40 +1,27 @@
 // Question 2: is the state sound? A function for each part, settings, stack and slots, and one pass over each list of the state.
 ghost use mathlib.Core.Path.{_≡_};
-ghost use mathlib.Core.Bool.{true, false, _&&_, Bool·beq};
+ghost use mathlib.Core.Bool.{true, false, _&&_};
 ghost use Prim.Native.Nat.{ℕ, _≤_, _<_};
 ghost use lib.IntN.{pos, negℤ};
 ghost use lib.Signed.{leZ};
 ghost use lib.ListN.{length, getD, replicate};
 ghost use Rattle.rules.specs.Indices.{all};
 ghost use Rattle.rules.specs.Clock.{offset};
-ghost use Rattle.rules.specs.Areas.{bits, elem, distinct};
-ghost use Rattle.rules.specs.Board.{idle};
+ghost use Rattle.rules.specs.Areas.{memoryLength, bits, elem};
 ghost use Rattle.rules.specs.Board8.{board8};
 ghost use Rattle.rules.specs.Questions.{connectionSound, horizonSound, settingsSound, stack, listed, stackSound, slotSound, slotsSound, sound};
 ghost use Rattle.layout.specs.Room.{Room};
-ghost use Rattle.sound.specs.Entries.{entries};
+ghost use Rattle.passes.specs.Stores.{store};
+ghost use Rattle.passes.specs.Stack.{Marked};
 use layout::ClockReading;
 use layout::ConnectionId;
 use layout::Field;
+use layout::Router;
 use layout::SlotAddress;
-
-// Both tests hold, without a branch.
-fn both(a: bool, b: bool) -> bool
-    ensures { λ r. ⌜ r ≡ (a && b) ⌝ }
-{
-    a & b
-}
-
-// Both tests hold, or neither does.
-fn same(a: bool, b: bool) -> bool
-    ensures { λ r. ⌜ r ≡ Bool·beq a b ⌝ }
-{
-    a == b
-}
 
 // A connection's delay and mask are in range.
 fn connection_sound(state: &[u8], c: ConnectionId) -> bool
-    requires { ⌜ length (now state) ≡ 1804 ⌝ }
+    requires { ⌜ length (now state) ≡ board8 .stateLength ⌝ }
     ensures { λ r. ⌜ r ≡ connectionSound board8 (now (state .entry)) (c .0) ⌝ }
 {
     if 128 <= layout::read(state, Field::Delay(c)) {
@@ -44,11 +31,11 @@ fn connection_sound(state: &[u8], c: ConnectionId) -> bool
 }
 
 fn connections_sound(state: &[u8]) -> bool
-    requires { ⌜ length (now state) ≡ 1804 ⌝ }
+    requires { ⌜ length (now state) ≡ board8 .stateLength ⌝ }
     ensures { λ r. ⌜ r ≡ all 256 (connectionSound board8 (now (state .entry))) ⌝ }
 {
-    let mut i: usize = 0;
-    while i < 256 {
+    let mut i = 0;
+    while i < Router::CONNECTIONS {
         if !connection_sound(state, ConnectionId(i as u8)) {
             return false;
         }
@@ -58,12 +45,13 @@ fn connections_sound(state: &[u8]) -> bool
 }
 
 fn horizons_sound(state: &[u8]) -> bool
-    requires { ⌜ length (now state) ≡ 1804 ⌝ }
+    requires { ⌜ length (now state) ≡ board8 .stateLength ⌝ }
     ensures { λ r. ⌜ r ≡ all 5 (horizonSound board8 (now (state .entry))) ⌝ }
 {
-    let mut p: u8 = 0;
-    while p < 5 {
-        if 128 <= layout::read(state, Field::Horizon(p)) {
+    let mut p = 0;
+    while p < Router::PORTS {
+        let in_range = layout::read(state, Field::Horizon(p as u8)) < 128;
+        if !in_range {
             return false;
         }
         p += 1;
@@ -73,7 +61,7 @@ fn horizons_sound(state: &[u8]) -> bool
 
 // Connection table, horizons and control latch.
 fn settings_sound(state: &[u8]) -> bool
-    requires { ⌜ length (now state) ≡ 1804 ⌝ }
+    requires { ⌜ length (now state) ≡ board8 .stateLength ⌝ }
     ensures { λ r. ⌜ r ≡ settingsSound board8 (now (state .entry)) ⌝ }
 {
     if !connections_sound(state) {
@@ -85,19 +73,19 @@ fn settings_sound(state: &[u8]) -> bool
     let delay = layout::read(state, Field::Latch(1)) < 128;
     let routes = layout::read(state, Field::Latch(2)) <= 31;
     let horizons = layout::read(state, Field::Latch(3)) <= 31;
-    both(delay, both(routes, horizons))
+    delay & (routes & horizons)
 }
 
 // Marks the slots among the first n entries of the stack, and says whether these are different.
-fn mark(state: &[u8], n: u16, seen: &mut [bool; 256]) -> bool
-    requires { ⌜ (length (now state) ≡ 1804) × (n ≤ 256) × (now seen ≡ replicate 256 false) ⌝ }
-    ensures { λ r. ⌜ (r ≡ distinct (entries (now (state .entry)) n)) × ((a : ℕ) → a < 256 → getD (now (seen .exit)) a false ≡ elem a (entries (now (state .entry)) n)) × ((j : ℕ) → j < n → board8 .get (now (state .entry)) (idle j) < 256) ⌝ }
+fn mark(state: &[u8], n: u16, seen: &mut [bool; Router::SLOTS]) -> bool
+    requires { ⌜ (length (now state) ≡ board8 .stateLength) × (n ≤ 256) × (now seen ≡ replicate 256 false) ⌝ }
+    ensures { λ r. ⌜ Marked board8 (now (state .entry)) n (now (seen .exit)) r ⌝ }
 {
     let mut distinct = true;
     let mut i: u16 = 0;
     while i < n {
         let a = layout::read(state, Field::Idle(i)) as usize;
-        distinct = both(!seen[a], distinct);
+        distinct = !seen[a] & distinct;
         seen[a] = true;
         i += 1;
     }
@@ -105,15 +93,15 @@ fn mark(state: &[u8], n: u16, seen: &mut [bool; 256]) -> bool
 }
 
 // The slots marked are exactly those with mask 0.
-fn all_listed(state: &[u8], seen: &[bool; 256]) -> bool
-    requires { ⌜ (length (now state) ≡ 1804) × ((a : ℕ) → a < 256 → getD (now seen) a false ≡ elem a (stack board8 (now state))) ⌝ }
+fn all_listed(state: &[u8], seen: &[bool; Router::SLOTS]) -> bool
+    requires { ⌜ (length (now state) ≡ board8 .stateLength) × ((a : ℕ) → a < 256 → getD (now seen) a false ≡ elem a (stack board8 (now state))) ⌝ }
     ensures { λ r. ⌜ r ≡ all 256 (listed board8 (now (state .entry))) ⌝ }
 {
     let mut ok = true;
-    let mut i: usize = 0;
-    while i < 256 {
+    let mut i = 0;
+    while i < Router::SLOTS {
         let empty = layout::read(state, Field::Mask(SlotAddress(i as u8))) == 0;
-        ok = both(ok, same(seen[i], empty));
+        ok = ok & (seen[i] == empty);
         i += 1;
     }
     ok
@@ -121,7 +109,7 @@ fn all_listed(state: &[u8], seen: &[bool; 256]) -> bool
 
 // Free count and idle-address stack.
 fn stack_sound(state: &[u8]) -> bool
-    requires { ⌜ length (now state) ≡ 1804 ⌝ }
+    requires { ⌜ length (now state) ≡ board8 .stateLength ⌝ }
     ensures sound { λ r. ⌜ r ≡ stackSound board8 (now (state .entry)) ⌝ }
     ensures room { λ r. ⌜ (r ≡ true → Room (now (state .entry))) ⌝ }
 {
@@ -129,7 +117,7 @@ fn stack_sound(state: &[u8]) -> bool
     if 256 < n {
         return false;
     }
-    let mut seen = [false; 256];
+    let mut seen = [false; Router::SLOTS];
     if !mark(state, n, &mut seen) {
         return false;
     }
@@ -146,8 +134,8 @@ fn offset_sound(time: ClockReading, t: ClockReading, d: u8) -> bool
 
 // The slot is empty, or holds a packet whose mask, delay, time and header are in order.
 fn slot_sound(state: &[u8], memory: &[u8], s: SlotAddress) -> bool
-    requires { ⌜ (length (now state) ≡ 1804) × (length (now memory) ≡ 5120) ⌝ }
-    ensures { λ r. ⌜ r ≡ slotSound board8 (record { state = now (state .entry); memory = now (memory .entry) }) (s .0) ⌝ }
+    requires { ⌜ (length (now state) ≡ board8 .stateLength) × (length (now memory) ≡ memoryLength) ⌝ }
+    ensures { λ r. ⌜ r ≡ slotSound board8 (store (now (state .entry)) (now (memory .entry))) (s .0) ⌝ }
 {
     let mask = layout::read(state, Field::Mask(s));
     if mask == 0 {
@@ -166,15 +154,15 @@ fn slot_sound(state: &[u8], memory: &[u8], s: SlotAddress) -> bool
     if !offset_sound(time, t, d) {
         return false;
     }
-    memory[20 * (s.0 as usize) + 1] == deadline.0
+    memory[Router::PACKET * (s.0 as usize) + 1] == deadline.0
 }
 
 fn slots_sound(state: &[u8], memory: &[u8]) -> bool
-    requires { ⌜ (length (now state) ≡ 1804) × (length (now memory) ≡ 5120) ⌝ }
-    ensures { λ r. ⌜ r ≡ slotsSound board8 (record { state = now (state .entry); memory = now (memory .entry) }) ⌝ }
+    requires { ⌜ (length (now state) ≡ board8 .stateLength) × (length (now memory) ≡ memoryLength) ⌝ }
+    ensures { λ r. ⌜ r ≡ slotsSound board8 (store (now (state .entry)) (now (memory .entry))) ⌝ }
 {
-    let mut i: usize = 0;
-    while i < 256 {
+    let mut i = 0;
+    while i < Router::SLOTS {
         if !slot_sound(state, memory, SlotAddress(i as u8)) {
             return false;
         }
@@ -185,8 +173,8 @@ fn slots_sound(state: &[u8], memory: &[u8]) -> bool
 
 // Question 2, its parts in order.
 pub fn is_sound(state: &[u8], memory: &[u8]) -> bool
-    requires { ⌜ (length (now state) ≡ 1804) × (length (now memory) ≡ 5120) ⌝ }
-    ensures sound { λ r. ⌜ r ≡ sound board8 (record { state = now (state .entry); memory = now (memory .entry) }) ⌝ }
+    requires { ⌜ (length (now state) ≡ board8 .stateLength) × (length (now memory) ≡ memoryLength) ⌝ }
+    ensures sound { λ r. ⌜ r ≡ sound board8 (store (now (state .entry)) (now (memory .entry))) ⌝ }
     ensures room { λ r. ⌜ (r ≡ true → Room (now (state .entry))) ⌝ }
 {
     if !settings_sound(state) {

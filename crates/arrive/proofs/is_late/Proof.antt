@@ -1,5 +1,8 @@
--- `is_late` meets its contract: `in_time` tells whether the offset is at least - d, and the answer is its no (`late-is`). Assumes nothing.
-use Rattle.arrive.proofs.Laws.{late-is}
+-- `arrive::is_late` meets its contract: `in_time` tells whether the offset is at least - d, and the answer is its no. Assumes nothing.
+use mathlib.Core.Path.{sym}
+use Rattle.rules.specs.Board8.{board8}
+use Rattle.rules.proofs.FieldBytes.{stamp-one}
+use Rattle.passes.proofs.Arrivals.{late-is}
 use borrow.Author.Needs.{needs}
 use Rattle.arrive.proofs.is_late.Statement.{statement}
 use Rattle.arrive.proofs.is_late.Tie as tie
@@ -20,7 +23,8 @@ in-time-requires : tie.Need-in-time-requires
 in-time-requires c κs = search needs
 
 returns : tie.Need-returns
-returns c = late-is _ _ _ _ _ (c .before .before .before .get .ensures) (c .before .get2 .ensures) (c .in-time .ensures)
+returns c = let t = c .before .before .before in
+    late-is board8 _ _ (sym (stamp-one _)) (t .get .ensures) (c .before .get2 .ensures) (c .in-time .ensures)
 
 pub is-late-spec : {M : Type 1} → statement M
 is-late-spec =

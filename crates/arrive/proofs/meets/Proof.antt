@@ -1,9 +1,25 @@
--- `meets` meets its contract: at each return the questions asked so far decide the tests of `arrival`. Assumes nothing.
+-- `arrive::meets` meets its contract: at each return the questions asked so far decide the tests of `arrival`. Assumes nothing.
+use mathlib.Core.Bool.{cond}
+use mathlib.Core.Path.{_≡_}
+use native.Mathlib.Omega.{arith}
+use lib.Dec.{eqb}
 use borrow.Author.Tests.{eq-eqb, ne-eqb}
+use Rattle.rules.specs.Board.{free}
+use Rattle.rules.specs.Board8.{board8}
 use Rattle.rules.specs.Tick.{arrival}
+use Rattle.passes.specs.Arrivals.{late}
 use borrow.Author.Needs.{needs}
 use Rattle.arrive.proofs.meets.Statement.{statement}
 use Rattle.arrive.proofs.meets.Tie as tie
+
+-- Where question 6 is passed, 7 and 8 decide.
+at-open-entry : (c : tie.Else2) → let a = c .before .before .before .before .before .before .before .args in
+    let s = a .state .now in
+    arrival board8 s (a .arriving) (a .port) (a .packet .now) ≡ cond (late board8 s (a .packet .now)) 7 (cond (eqb (board8 .get s free) 0) 8 1)
+unfolding arrival
+at-open-entry c =
+    let h = c .before .before .before in
+    rw (← h .before .has-port .ensures, h .if1 .left, ← c .before .get .ensures, ne-eqb (c .before .get .result) 0 (λ e. omega arith))
 
 has-port-requires : tie.Need-has-port-requires
 has-port-requires c κs = search needs
@@ -20,30 +36,25 @@ get-requires c κs = search needs
 
 returns-2 : tie.Need-returns-2
 unfolding arrival
-returns-2 c = rw (← c .before .before .before .before .has-port .ensures, c .before .before .before .if1 .left, ← c .before .get .ensures, eq-eqb _ _ (c .if2 .taken))
+returns-2 c = let h = c .before .before .before in
+    rw (← h .before .has-port .ensures, h .if1 .left, ← c .before .get .ensures, eq-eqb (c .before .get .result) 0 (omega arith))
 
 is-late-requires : tie.Need-is-late-requires
 is-late-requires c κs = search needs
 
 returns-3 : tie.Need-returns-3
-unfolding arrival
-returns-3 c = let q = c .before .before in
-    rw (← q .before .before .before .before .has-port .ensures, q .before .before .before .if1 .left, ← q .before .get .ensures, ne-eqb _ _ (q .if2 .left), ← c .before .is-late .ensures, c .if3 .taken)
+returns-3 c = rw (at-open-entry (c .before .before), ← c .before .is-late .ensures, c .if3 .taken)
 
 free-count-requires : tie.Need-free-count-requires
 free-count-requires c κs = search needs
 
 returns-4 : tie.Need-returns-4
-unfolding arrival
-returns-4 c = let r = c .before .before in
-    let q = r .before .before in
-    rw (← q .before .before .before .before .has-port .ensures, q .before .before .before .if1 .left, ← q .before .get .ensures, ne-eqb _ _ (q .if2 .left), ← r .before .is-late .ensures, r .if3 .left, ← c .before .free-count .ensures, eq-eqb _ _ (c .if4 .taken))
+returns-4 c = let l = c .before .before in
+    rw (at-open-entry (l .before .before), ← l .before .is-late .ensures, l .if3 .left, ← c .before .free-count .ensures, eq-eqb (c .before .free-count .result) 0 (omega arith))
 
 returns-5 : tie.Need-returns-5
-unfolding arrival
-returns-5 c = let r = c .before .before in
-    let q = r .before .before in
-    rw (← q .before .before .before .before .has-port .ensures, q .before .before .before .if1 .left, ← q .before .get .ensures, ne-eqb _ _ (q .if2 .left), ← r .before .is-late .ensures, r .if3 .left, ← c .before .free-count .ensures, ne-eqb _ _ (c .if4 .left))
+returns-5 c = let l = c .before .before in
+    rw (at-open-entry (l .before .before), ← l .before .is-late .ensures, l .if3 .left, ← c .before .free-count .ensures, ne-eqb (c .before .free-count .result) 0 (λ e. omega arith))
 
 pub meets-spec : {M : Type 1} → statement M
 meets-spec =

@@ -1,6 +1,10 @@
--- `place` meets its contract: what each call gives, from the last store back to the first read, makes `placed` (`placed-is`). Assumes nothing.
-use Rattle.arrive.proofs.Laws.{placed-is, placed-room}
-use Rattle.arrive.specs.Arrivals.{store}
+-- `arrive::place` meets its contract: what each call gives, from the last store back to the first read, makes `placed`. Assumes nothing.
+use mathlib.Core.Path.{sym}
+use Rattle.rules.specs.Board8.{board8}
+use Rattle.rules.proofs.Board8Laws.{lawful8}
+use Rattle.rules.proofs.FieldBytes.{stamp-one}
+use Rattle.passes.specs.Stores.{store}
+use Rattle.passes.proofs.Arrivals.{placed-is, placed-leaves-room}
 use borrow.Author.Needs.{needs}
 use Rattle.arrive.proofs.place.Statement.{statement}
 use Rattle.arrive.proofs.place.Tie as tie
@@ -54,27 +58,23 @@ same-length-2 : tie.Need-same-length-2
 same-length-2 c = search needs
 
 returns : tie.Need-returns
-returns c =
-    let c₁ = c .before .before in
-    let c₂ = c₁ .before .before .before .before in
-    let c₃ = c₂ .before .before .before .before in
-    let c₄ = c₃ .before .before .before .before in
-    let c₅ = c₄ .before .before .before .before in
-    let c₆ = c₅ .before .before in
-    let c₇ = c₆ .before .before in
-    let c₈ = c₇ .before .before in
-    let c₉ = c₈ .before .before in
-    let c₁₀ = c₉ .before .before in
-    let c₁₁ = c₁₀ .before in
-    let c₁₂ = c₁₁ .before .before .before .before .before .before .before in
-    let a = c₁₂ .args in
-    let n = c₇ .free-count in
-    let i = c₆ .get4 in
-    let e = placed-is (store (a .state .now) (a .memory .now)) (a .packet .now) (c₁₁ .get .result) (c₁₀ .later .result .0) (c₉ .get2 .result) (c₈ .get3 .result) (n .result) (i .result)
-    (c₅ .store-packet .last .0) (c₄ .put-free .last .0) (c₃ .put .last .0) (c₂ .put2 .last .0) (c₁ .put3 .last .0)
-    (c₁₁ .get .ensures) (c₁₀ .later .ensures) (c₉ .get2 .ensures) (c₈ .get3 .ensures) (n .ensures) (i .ensures)
-    (c₅ .store-packet .ensures) (c₄ .put-free .ensures) (c₃ .put .ensures) (c₂ .put2 .ensures) (c₁ .put3 .ensures) in
-    (e, placed-room (store (a .state .now) (a .memory .now)) (a .packet .now) (n .result) (i .result) (c₁ .put3 .last .0) (c₅ .store-packet .last .0) (c₁₂ .pre .0) (c₁₂ .pre .3) (n .ensures) (i .ensures) (search needs) e)
+returns c = let mask = c .before .before in
+    let deadline = mask .before .before .before .before in
+    let time = deadline .before .before .before .before in
+    let count = time .before .before .before .before in
+    let memory = count .before .before .before .before in
+    let top = memory .before .before in
+    let free = top .before .before in
+    let identifier = free .before .before in
+    let routes = identifier .before .before in
+    let later = routes .before .before in
+    let delay = later .before in
+    let start = delay .before .before .before .before .before .before .before in
+    let r = store (start .args .state .now) (start .args .memory .now) in
+    let k = start .args .packet .now in
+    let e = placed-is board8 r k (sym (stamp-one k)) (delay .get .ensures) (later .later .ensures) (routes .get2 .ensures) (identifier .get3 .ensures) (free .free-count .ensures) (top .get4 .ensures)
+    (memory .store-packet .ensures) (count .put-free .ensures) (time .put .ensures) (deadline .put2 .ensures) (mask .put3 .ensures) in
+    (e, placed-leaves-room board8 lawful8 r k (start .pre .0) (start .pre .3) (free .free-count .ensures) (top .get4 .ensures) (search needs) e)
 
 pub place-spec : {M : Type 1} → statement M
 place-spec =

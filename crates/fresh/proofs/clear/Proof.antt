@@ -29,16 +29,14 @@ loop-less : tie.Need-loop-less Inv-loop μ-loop
 loop-less c = search needs
 
 loop-again : tie.Need-loop-again Inv-loop μ-loop
-loop-again c =
-    let l = c .before .loop in
+loop-again c = let l = c .before .loop in
     (simp length-set (omega arith), simp length-set (l .inv .1), rw (l .inv .2) (fill-more (l .i) 0 (c .before .before .args .area .now) (omega arith)))
 
 same-length : tie.Need-same-length Inv-loop μ-loop
 same-length c = search needs
 
 returns : tie.Need-returns Inv-loop μ-loop
-returns c =
-    let l = c .before .loop in
+returns c = let l = c .before .loop in
     let a = c .before .before .args .area .now in
     let e : l .i ≡ length a = omega arith in
     l .inv .2 ∙ rw (e, drop-of-length-le a {i = length a} (omega arith)) (append-nil _)

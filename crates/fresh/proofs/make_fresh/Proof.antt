@@ -1,10 +1,14 @@
--- `fresh::make_fresh` meets its contract. Each refusal alters nothing; past them the stores make the fresh state and zero memory (`accepted` of Laws).
--- Assumes nothing.
-use borrow.Author.Needs.{needs}
-use mathlib.Core.Path.{ap, _∙_}
+-- `fresh::make_fresh` meets its contract. Each refusal alters nothing; past them the bytes make the fresh state, whose slots are empty already, and the memory
+-- is cleared. Assumes nothing.
+use mathlib.Core.Path.{_≡_, sym, ap, _∙_}
 use native.Mathlib.Omega.{arith}
 use lib.ListN.{length}
-use Rattle.fresh.proofs.Making.{length-fresh, refused-state, refused-memory, accepted}
+use Rattle.rules.specs.Board8.{board8}
+use Rattle.rules.proofs.AreaLaws.{sets-all}
+use Rattle.rules.proofs.Board8Laws.{lawful8}
+use Rattle.passes.proofs.MakeFresh.{refused-state, refused-memory, accepted}
+use Rattle.fresh.proofs.EmptySlots.{emptied-fresh}
+use borrow.Author.Needs.{needs}
 use Rattle.fresh.proofs.make_fresh.Statement.{statement}
 use Rattle.fresh.proofs.make_fresh.Tie as tie
 
@@ -12,13 +16,13 @@ number-requires : tie.Need-number-requires
 number-requires c κs = search needs
 
 returns : tie.Need-returns
-returns c = refused-state _ _ _ (c .before .if1 .taken) (c .number .ensures)
+returns c = refused-state board8 _ _ _ (c .before .if1 .taken) (c .number .ensures)
 
 number-requires-2 : tie.Need-number-requires-2
 number-requires-2 c κs = search needs
 
 returns-2 : tie.Need-returns-2
-returns-2 c = refused-memory _ _ _ (c .before .before .if1 .left) (c .before .if2 .taken) (c .number2 .ensures)
+returns-2 c = refused-memory board8 _ _ _ (c .before .before .if1 .left) (c .before .if2 .taken) (c .number2 .ensures)
 
 fresh-requires : tie.Need-fresh-requires
 fresh-requires c κs = search needs
@@ -27,9 +31,8 @@ slice-aggregate-copy-in : tie.Need-slice-aggregate-copy-in
 slice-aggregate-copy-in c = search needs
 
 copy-in-requires : tie.Need-copy-in-requires
-copy-in-requires c κs =
-    let made = c .before .before .before .before in
-    let e = ap length (made .fresh .ensures .0) ∙ length-fresh (made .before .before .before .before .before .args .clock) in
+copy-in-requires c κs = let made = c .before .before .before .before in
+    let e = ap length (made .fresh .ensures .0) ∙ lawful8 .length-fresh _ in
     omega (arith, made .before .before .if1 .left)
 
 put-slots-requires : tie.Need-put-slots-requires
@@ -48,13 +51,15 @@ same-length-2 : tie.Need-same-length-2
 same-length-2 c = search needs
 
 returns-3 : tie.Need-returns-3
-returns-3 c =
-    let cleared = c .before .before .before in
+returns-3 c = let cleared = c .before .before .before in
     let emptied = cleared .before .before .before .before in
     let copied = emptied .before .before .before .before in
     let made = copied .before .before .before .before .before in
-    accepted _ _ _ _ _ _ _ (made .fresh .ensures .0) (copied .copy-in .ensures) (emptied .put-slots .ensures) (cleared .clear .ensures)
-    (made .before .before .if1 .left) (made .before .if2 .left) (c .number3 .ensures)
+    let sized = made .before .before .if1 .left in
+    let start = made .before .before .before .before .before in
+    let t = start .args .clock in
+    let e : copied .copy-in .last .1 .0 ≡ board8 .freshState t = copied .copy-in .ensures ∙ rw (made .fresh .ensures .0) (sets-all (start .args .state .now) _ (sized ∙ sym (lawful8 .length-fresh t))) in
+    accepted board8 _ _ _ sized (made .before .if2 .left) (emptied .put-slots .ensures ∙ rw e (emptied-fresh t)) (cleared .clear .ensures) (c .number3 .ensures)
 
 pub make-fresh-spec : {M : Type 1} → statement M
 make-fresh-spec =

@@ -6,14 +6,15 @@ use mathlib.Core.Path.{_≡_, refl, _∙_}
 use native.Mathlib.Numerals.{add-one}
 use native.Mathlib.Omega.{arith}
 use lib.ListN.{length, getD, getD-replicate}
-use Rattle.fresh.specs.Slots.{emptied}
+use Rattle.rules.specs.Board8.{board8}
 use Rattle.layout.specs.Slots.{empty}
+use Rattle.fresh.specs.Slots.{emptied}
 use borrow.Author.Needs.{needs}
 use Rattle.fresh.proofs.put_slots.Statement.{statement}
 use Rattle.fresh.proofs.put_slots.Tie as tie
 
 abbrev Inv-loop : tie.InvT-loop
-Inv-loop state₀ slots i₀ state i = (i ≤ 256) × (length state ≡ 1804) × (state ≡ emptied i state₀)
+Inv-loop state₀ slots i₀ state i = (i ≤ 256) × (length state ≡ board8 .stateLength) × (state ≡ emptied i state₀)
 
 abbrev μ-loop : tie.MeasureT-loop
 μ-loop state₀ slots i₀ state i = 256 - i
@@ -52,8 +53,7 @@ loop-less c = search needs
 
 loop-again : tie.Need-loop-again Inv-loop μ-loop
 unfolding emptied
-loop-again c =
-    let t = c .before .before .before .before .before .before .before in
+loop-again c = let t = c .before .before .before .before .before .before .before in
     let l = t .before .loop in
     (search needs, search needs, rw (add-one (l .i), ← l .inv .2) (c .before .before .copy-in .ensures ∙ rw (slot-empty t)))
 

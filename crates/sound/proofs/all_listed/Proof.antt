@@ -1,12 +1,12 @@
 -- `sound::all_listed` meets its contract. The loop's invariant: the flag says whether the slots passed are listed just if empty.
 -- The measure is how many are left. Assumes nothing.
+use Prim.Native.Nat.{_≤_, _-_}
+use mathlib.Core.Path.{_≡_, refl}
+use native.Mathlib.Omega.{arith}
 use Rattle.rules.specs.Indices.{all}
 use Rattle.rules.specs.Board8.{board8}
 use Rattle.rules.specs.Questions.{listed}
-use native.Mathlib.Numerals.{add-one}
-use native.Mathlib.Omega.{arith}
-use mathlib.Core.Path.{_≡_, refl}
-use Prim.Native.Nat.{_≤_, _-_}
+use Rattle.passes.proofs.FirstFailure.{all-next}
 use borrow.Author.Needs.{needs}
 use Rattle.sound.proofs.all_listed.Statement.{statement}
 use Rattle.sound.proofs.all_listed.Tie as tie
@@ -27,14 +27,8 @@ cast-t8 c = search needs
 read-requires : tie.Need-read-requires Inv-loop μ-loop
 read-requires c κs = search needs
 
-element-copy-out-same : tie.Need-element-copy-out-same Inv-loop μ-loop
-element-copy-out-same c = search needs
-
-same-requires : tie.Need-same-requires Inv-loop μ-loop
-same-requires c κs = search needs
-
-both-requires : tie.Need-both-requires Inv-loop μ-loop
-both-requires c κs = search needs
+element-copy-out-ok : tie.Need-element-copy-out-ok Inv-loop μ-loop
+element-copy-out-ok c = search needs
 
 add-i : tie.Need-add-i Inv-loop μ-loop
 add-i c = search needs
@@ -43,10 +37,9 @@ loop-less : tie.Need-loop-less Inv-loop μ-loop
 loop-less c = search needs
 
 loop-again : tie.Need-loop-again Inv-loop μ-loop
-unfolding all
-loop-again c = let i = c .before .before .before .before .before .loop .i in
-    let q = c .before .before .before .before .before .before .before .pre .1 i (omega arith) in
-    (search needs, rw (add-one i) (cc q))
+loop-again c = let l = c .before .before .before .loop in
+    let marks = c .before .before .before .before .before .pre .1 in
+    (search needs, all-next _ (l .i) _ _ (l .inv .1) (rw (marks (l .i) (search needs), c .before .read .ensures)))
 
 returns : tie.Need-returns Inv-loop μ-loop
 returns c = let e : c .before .loop .i ≡ 256 = omega arith in rw (← e) (c .before .loop .inv .1)
@@ -60,9 +53,7 @@ all-listed-spec =
     loop-holds
     cast-t8
     read-requires
-    element-copy-out-same
-    same-requires
-    both-requires
+    element-copy-out-ok
     add-i
     loop-less
     loop-again

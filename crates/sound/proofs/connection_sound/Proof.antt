@@ -1,7 +1,7 @@
 -- `sound::connection_sound` meets its contract: each return has the tests made so far. Assumes nothing.
-use Rattle.rules.proofs.FieldBytes.{half-one}
 use native.Mathlib.Omega.{arith}
 use borrow.Author.Tests.{lt-ltb, le-ltb}
+use Rattle.rules.proofs.FieldBytes.{half-one}
 use borrow.Author.Needs.{needs}
 use Rattle.sound.proofs.connection_sound.Statement.{statement}
 use Rattle.sound.proofs.connection_sound.Tie as tie
@@ -16,7 +16,14 @@ read-requires-2 : tie.Need-read-requires-2
 read-requires-2 c κs = search needs
 
 returns-2 : tie.Need-returns-2
-returns-2 c = rw (half-one, ← c .before .before .read .ensures, lt-ltb (c .before .before .read .result) 128 (omega arith), ← c .read2 .ensures)
+returns-2 c = let d = c .before .before .read in
+    rw (half-one, ← d .ensures, lt-ltb (d .result) 128 (omega arith), ← c .read2 .ensures)
 
 pub connection-sound-spec : {M : Type 1} → statement M
-connection-sound-spec = tie.close (tie.spec read-requires returns read-requires-2 returns-2)
+connection-sound-spec =
+    tie.close
+    (tie.spec
+    read-requires
+    returns
+    read-requires-2
+    returns-2)

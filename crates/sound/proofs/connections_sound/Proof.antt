@@ -1,27 +1,20 @@
--- `sound::connections_sound` meets its contract. The loop's invariant: the connections passed are sound.
--- The measure is how many are left. Assumes nothing.
-use Rattle.sound.proofs.Laws.{all-fails, all-more, all-done}
-use Rattle.rules.specs.Indices.{all}
+-- `sound::connections_sound` meets its contract. The loop's invariant: the connections passed are sound. The measure is how many are left. Assumes nothing.
+use Prim.Native.Nat.{_-_}
 use Rattle.rules.specs.Board8.{board8}
 use Rattle.rules.specs.Questions.{connectionSound}
-use native.Mathlib.Omega.{arith}
-use mathlib.Core.Bool.{true}
-use mathlib.Core.Path.{_≡_, refl, sym, _∙_}
-use Prim.Native.Nat.{_≤_, _-_}
+use Rattle.passes.proofs.FirstFailure.{Passed, passed-none, passed-next, fails-at, passed-all}
 use borrow.Author.Needs.{needs}
-use borrow.Author.Tests.{not-true, not-false}
 use Rattle.sound.proofs.connections_sound.Statement.{statement}
 use Rattle.sound.proofs.connections_sound.Tie as tie
 
 abbrev Inv-loop : tie.InvT-loop
-Inv-loop state i₀ i = (i ≤ 256) × (true ≡ all i (connectionSound board8 state))
+Inv-loop state i₀ i = Passed 256 (connectionSound board8 state) i
 
 abbrev μ-loop : tie.MeasureT-loop
 μ-loop state i₀ i = 256 - i
 
 loop-holds : tie.Need-loop-holds Inv-loop μ-loop
-unfolding all
-loop-holds c = (search needs, refl)
+loop-holds c = passed-none _ _
 
 cast-t4 : tie.Need-cast-t4 Inv-loop μ-loop
 cast-t4 c = search needs
@@ -30,7 +23,7 @@ connection-sound-requires : tie.Need-connection-sound-requires Inv-loop μ-loop
 connection-sound-requires c κs = search needs
 
 returns : tie.Need-returns Inv-loop μ-loop
-returns c = all-fails _ 256 (c .before .before .before .loop .i) (omega arith) (sym (not-true (c .before .connection-sound .result) (c .if1 .taken)) ∙ c .before .connection-sound .ensures)
+returns c = let l = c .before .before .before .loop in fails-at _ _ (l .i) _ (c .before .connection-sound .ensures) (c .before .before .loop-test .taken) (c .if1 .taken)
 
 add-i : tie.Need-add-i Inv-loop μ-loop
 add-i c = search needs
@@ -39,10 +32,10 @@ loop-less : tie.Need-loop-less Inv-loop μ-loop
 loop-less c = search needs
 
 loop-again : tie.Need-loop-again Inv-loop μ-loop
-loop-again c = (search needs, all-more _ _ (c .before .before .before .loop .inv .1) (sym (not-false (c .before .connection-sound .result) (c .if1 .left)) ∙ c .before .connection-sound .ensures))
+loop-again c = let l = c .before .before .before .loop in passed-next _ _ (l .i) _ (c .before .connection-sound .ensures) (l .inv) (c .before .before .loop-test .taken) (c .if1 .left)
 
 returns-2 : tie.Need-returns-2 Inv-loop μ-loop
-returns-2 c = all-done _ 256 (c .before .loop .i) (omega arith) (c .before .loop .inv .1)
+returns-2 c = passed-all _ _ (c .before .loop .i) (c .before .loop .inv) (c .loop-test .left)
 
 pub connections-sound-spec : {M : Type 1} → statement M
 connections-sound-spec =

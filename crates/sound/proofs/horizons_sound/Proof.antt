@@ -1,34 +1,31 @@
--- `sound::horizons_sound` meets its contract. The loop's invariant: the horizons passed are in range.
--- The measure is how many are left. Assumes nothing.
-use Rattle.sound.proofs.Laws.{all-fails, all-more, all-done}
-use Rattle.rules.proofs.FieldBytes.{half-one}
-use Rattle.rules.specs.Indices.{all}
+-- `sound::horizons_sound` meets its contract. The loop's invariant: the horizons passed are in range. The measure is how many are left. Assumes nothing.
+use Prim.Native.Nat.{_-_}
 use Rattle.rules.specs.Board8.{board8}
 use Rattle.rules.specs.Questions.{horizonSound}
-use native.Mathlib.Omega.{arith}
-use mathlib.Core.Bool.{true}
-use mathlib.Core.Path.{_≡_, refl}
-use Prim.Native.Nat.{_≤_, _-_}
+use Rattle.passes.proofs.FirstFailure.{Passed, passed-none, passed-next, fails-at, passed-all}
+use lib.Dec.{ltb}
+use Rattle.rules.proofs.FieldBytes.{half-one}
 use borrow.Author.Needs.{needs}
-use borrow.Author.Tests.{lt-ltb, le-ltb}
 use Rattle.sound.proofs.horizons_sound.Statement.{statement}
 use Rattle.sound.proofs.horizons_sound.Tie as tie
 
 abbrev Inv-loop : tie.InvT-loop
-Inv-loop state p₀ p = (p ≤ 5) × (true ≡ all p (horizonSound board8 state))
+Inv-loop state p₀ p = Passed 5 (horizonSound board8 state) p
 
 abbrev μ-loop : tie.MeasureT-loop
 μ-loop state p₀ p = 5 - p
 
 loop-holds : tie.Need-loop-holds Inv-loop μ-loop
-unfolding all
-loop-holds c = (search needs, refl)
+loop-holds c = passed-none _ _
+
+cast-t6 : tie.Need-cast-t6 Inv-loop μ-loop
+cast-t6 c = search needs
 
 read-requires : tie.Need-read-requires Inv-loop μ-loop
 read-requires c κs = search needs
 
 returns : tie.Need-returns Inv-loop μ-loop
-returns c = all-fails _ 5 (c .before .before .before .loop .p) (omega arith) (rw (half-one, ← c .before .read .ensures, le-ltb (c .before .read .result) 128 (omega arith)))
+returns c = let l = c .before .before .before .loop in fails-at _ _ (l .p) (ltb (c .before .read .result) 128) (rw (half-one, ← c .before .read .ensures)) (c .before .before .loop-test .taken) (c .if1 .taken)
 
 add-p : tie.Need-add-p Inv-loop μ-loop
 add-p c = search needs
@@ -37,10 +34,10 @@ loop-less : tie.Need-loop-less Inv-loop μ-loop
 loop-less c = search needs
 
 loop-again : tie.Need-loop-again Inv-loop μ-loop
-loop-again c = (search needs, all-more _ _ (c .before .before .before .loop .inv .1) (rw (half-one, ← c .before .read .ensures, lt-ltb (c .before .read .result) 128 (omega arith))))
+loop-again c = let l = c .before .before .before .loop in passed-next _ _ (l .p) (ltb (c .before .read .result) 128) (rw (half-one, ← c .before .read .ensures)) (l .inv) (c .before .before .loop-test .taken) (c .if1 .left)
 
 returns-2 : tie.Need-returns-2 Inv-loop μ-loop
-returns-2 c = all-done _ 5 (c .before .loop .p) (omega arith) (c .before .loop .inv .1)
+returns-2 c = passed-all _ _ (c .before .loop .p) (c .before .loop .inv) (c .loop-test .left)
 
 pub horizons-sound-spec : {M : Type 1} → statement M
 horizons-sound-spec =
@@ -49,6 +46,7 @@ horizons-sound-spec =
     Inv-loop
     μ-loop
     loop-holds
+    cast-t6
     read-requires
     returns
     add-p

@@ -1,31 +1,22 @@
--- `sound::mark` meets its contract. The loop's invariant: the marks are the entries passed, the flag says whether these are different, and each is a slot.
--- The measure is how many are left. Assumes nothing.
-use Rattle.sound.proofs.Laws.{elem-more, distinct-more, small-more}
-use Rattle.sound.specs.Entries.{entries}
-use Rattle.rules.specs.Areas as Areas
-use Rattle.rules.specs.Areas.{elem, distinct}
-use Rattle.rules.specs.Indices.{topFirst}
-use Rattle.rules.specs.Board.{idle}
-use Rattle.rules.specs.Board8.{board8}
-use lib.ListN.{length, getD, length-set, length-replicate, getD-replicate}
-use native.Mathlib.Numerals.{add-one}
+-- `sound::mark` meets its contract. The loop's invariant: `Marked` of the entries passed. The measure is how many are left. Assumes nothing.
+use Prim.Native.Nat.{_≤_, _-_}
+use mathlib.Core.Path.{_≡_}
 use native.Mathlib.Omega.{arith}
-use mathlib.Core.Bool.{false}
-use mathlib.Core.Path.{_≡_, refl, _∙_}
-use Prim.Native.Nat.{ℕ, _≤_, _<_, _-_}
+use Rattle.rules.specs.Board8.{board8}
+use Rattle.passes.specs.Stack.{Marked}
+use Rattle.passes.proofs.StackMarks.{marked-none, marked-next}
 use borrow.Author.Needs.{needs}
 use Rattle.sound.proofs.mark.Statement.{statement}
 use Rattle.sound.proofs.mark.Tie as tie
 
 abbrev Inv-loop : tie.InvT-loop
-Inv-loop state n seen₀ distinct₀ i₀ seen distinct i = (i ≤ n) × (length seen ≡ 256) × (distinct ≡ Areas.distinct (entries state i)) × ((a : ℕ) → a < 256 → getD seen a false ≡ elem a (entries state i)) × ((j : ℕ) → j < i → board8 .get state (idle j) < 256)
+Inv-loop state n seen₀ distinct₀ i₀ seen distinct i = (i ≤ n) × Marked board8 state i seen distinct
 
 abbrev μ-loop : tie.MeasureT-loop
 μ-loop state n seen₀ distinct₀ i₀ seen distinct i = n - i
 
 loop-holds : tie.Need-loop-holds Inv-loop μ-loop
-unfolding topFirst elem distinct
-loop-holds c = rw (c .before .pre .2) (search needs, length-replicate 256 false, refl, λ a h. getD-replicate 256 a false false h, λ j h. absurd (omega arith))
+loop-holds c = (search needs, marked-none _ _ _ (c .before .pre .2))
 
 read-requires : tie.Need-read-requires Inv-loop μ-loop
 read-requires c κs = search needs
@@ -33,11 +24,8 @@ read-requires c κs = search needs
 cast-a : tie.Need-cast-a Inv-loop μ-loop
 cast-a c = search needs
 
-element-copy-out-both : tie.Need-element-copy-out-both Inv-loop μ-loop
-element-copy-out-both c = search needs
-
-both-requires : tie.Need-both-requires Inv-loop μ-loop
-both-requires c κs = search needs
+element-copy-out-distinct : tie.Need-element-copy-out-distinct Inv-loop μ-loop
+element-copy-out-distinct c = search needs
 
 element-write-seen : tie.Need-element-write-seen Inv-loop μ-loop
 element-write-seen c = search needs
@@ -49,20 +37,12 @@ loop-less : tie.Need-loop-less Inv-loop μ-loop
 loop-less c = search needs
 
 loop-again : tie.Need-loop-again Inv-loop μ-loop
-loop-again c = let l = c .before .before .before .before .loop in
-    let s = c .before .before .before .before .before .before .args .state .now in
-    let a = c .before .before .read .result in
-    let e = c .before .before .read .ensures in (
-      search needs,
-      simp length-set (l .inv .1),
-      rw (add-one (l .i)) (c .both .ensures ∙ cc (distinct-more s (l .i) a e _ (l .inv .3 a (search needs)), l .inv .2)),
-      rw (add-one (l .i)) (elem-more s (l .i) a e (l .seen) (l .inv .1) (l .inv .3)),
-      rw (add-one (l .i)) (small-more (λ j. board8 .get s (idle j)) (l .i) a e (search needs) (l .inv .4)),
-    )
+loop-again c = let l = c .before .before .before .loop in
+    let a = c .before .read in
+    (search needs, marked-next _ _ (l .i) (a .result) (a .ensures) (search needs) (l .seen) (l .distinct) (l .inv .1))
 
 returns : tie.Need-returns Inv-loop μ-loop
-returns c = let e : c .before .loop .i ≡ c .before .before .before .args .n = omega arith in
-    rw (← e) (c .before .loop .inv .2, c .before .loop .inv .3, c .before .loop .inv .4)
+returns c = let e : c .before .loop .i ≡ c .before .before .before .args .n = omega arith in rw (← e) (c .before .loop .inv .1)
 
 pub mark-spec : {M : Type 1} → statement M
 mark-spec =
@@ -73,8 +53,7 @@ mark-spec =
     loop-holds
     read-requires
     cast-a
-    element-copy-out-both
-    both-requires
+    element-copy-out-distinct
     element-write-seen
     add-i
     loop-less

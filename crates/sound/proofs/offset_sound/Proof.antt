@@ -1,5 +1,7 @@
--- `sound::offset_sound` meets its contract, by the law `offset-window`. Assumes nothing.
-use Rattle.sound.proofs.Laws.{offset-window}
+-- `sound::offset_sound` meets its contract, by the law `offset-window` at a clock reading of one byte. Assumes nothing.
+use native.Mathlib.Omega.{arith}
+use Rattle.rules.specs.Areas.{bits, half, low}
+use Rattle.rules.proofs.Offsets.{offset-window}
 use borrow.Author.Needs.{needs}
 use Rattle.sound.proofs.offset_sound.Statement.{statement}
 use Rattle.sound.proofs.offset_sound.Tie as tie
@@ -14,7 +16,14 @@ add-result : tie.Need-add-result
 add-result c = search needs
 
 returns : tie.Need-returns
-returns c = offset-window _ _ _ _ _ (search needs) (search needs) (c .before .before .pre) (c .before .later .ensures) (c .since .ensures)
+unfolding bits half low
+returns c = offset-window 1 _ _ _ _ _ (omega arith) (search needs) (search needs) (c .before .before .pre) (c .before .later .ensures) (c .since .ensures)
 
 pub offset-sound-spec : {M : Type 1} → statement M
-offset-sound-spec = tie.close (tie.spec later-requires since-requires add-result returns)
+offset-sound-spec =
+    tie.close
+    (tie.spec
+    later-requires
+    since-requires
+    add-result
+    returns)

@@ -1,7 +1,7 @@
--- `sound::settings_sound` meets its contract: at each return the parts tested so far decide the definition. Assumes nothing.
+-- `sound::settings_sound` meets its contract: its parts are tested in order, and the first that fails decides. Assumes nothing.
+use borrow.Author.Tests.{not-true, not-false}
 use Rattle.rules.specs.Questions.{settingsSound}
 use Rattle.rules.proofs.FieldBytes.{half-one}
-use borrow.Author.Tests.{not-true, not-false}
 use borrow.Author.Needs.{needs}
 use Rattle.sound.proofs.settings_sound.Statement.{statement}
 use Rattle.sound.proofs.settings_sound.Tie as tie
@@ -11,14 +11,18 @@ connections-sound-requires c κs = search needs
 
 returns : tie.Need-returns
 unfolding settingsSound
-returns c = rw (← c .before .connections-sound .ensures, not-true (c .before .connections-sound .result) (c .if1 .taken))
+returns c = let connections = c .before .connections-sound in
+    rw (← connections .ensures, not-true (connections .result) (c .if1 .taken))
 
 horizons-sound-requires : tie.Need-horizons-sound-requires
 horizons-sound-requires c κs = search needs
 
 returns-2 : tie.Need-returns-2
 unfolding settingsSound
-returns-2 c = rw (← c .before .before .before .connections-sound .ensures, not-false (c .before .before .before .connections-sound .result) (c .before .before .if1 .left), ← c .before .horizons-sound .ensures, not-true (c .before .horizons-sound .result) (c .if2 .taken))
+returns-2 c = let a = c .before .before in
+    let connections = a .before .connections-sound in
+    let horizons = c .before .horizons-sound in
+    rw (← connections .ensures, not-false (connections .result) (a .if1 .left), ← horizons .ensures, not-true (horizons .result) (c .if2 .taken))
 
 read-requires : tie.Need-read-requires
 read-requires c κs = search needs
@@ -29,15 +33,13 @@ read-requires-2 c κs = search needs
 read-requires-3 : tie.Need-read-requires-3
 read-requires-3 c κs = search needs
 
-both-requires : tie.Need-both-requires
-both-requires c κs = search needs
-
-both-requires-2 : tie.Need-both-requires-2
-both-requires-2 c κs = search needs
-
 returns-3 : tie.Need-returns-3
 unfolding settingsSound
-returns-3 c = rw (← c .before .before .before .before .before .before .before .before .connections-sound .ensures, not-false (c .before .before .before .before .before .before .before .before .connections-sound .result) (c .before .before .before .before .before .before .before .if1 .left), ← c .before .before .before .before .before .before .horizons-sound .ensures, not-false (c .before .before .before .before .before .before .horizons-sound .result) (c .before .before .before .before .before .if2 .left), half-one) (cc)
+returns-3 c = let b = c .before .before .before in
+    let a = b .before .before in
+    let connections = a .before .connections-sound in
+    let horizons = b .before .horizons-sound in
+    rw (← connections .ensures, not-false (connections .result) (a .if1 .left), ← horizons .ensures, not-false (horizons .result) (b .if2 .left), half-one) (cc)
 
 pub settings-sound-spec : {M : Type 1} → statement M
 settings-sound-spec =
@@ -50,6 +52,4 @@ settings-sound-spec =
     read-requires
     read-requires-2
     read-requires-3
-    both-requires
-    both-requires-2
     returns-3)

@@ -1,26 +1,52 @@
--- `sound::slot_sound` meets its contract: at each return the law `slot-is` has what was read so far and the tests made; what isn't read yet counts for nothing. Assumes nothing.
-use Rattle.sound.proofs.Laws.{slot-is}
-use mathlib.Core.Path.{refl}
+-- `sound::slot_sound` meets its contract: each return has the tests made so far, and what isn't read yet counts for nothing. Assumes nothing.
+use Prim.Native.Nat.{ℕ}
+use mathlib.Core.Bool.{Bool, _&&_}
+use mathlib.Core.Path.{_≡_, refl, sym, _∙_}
 use native.Mathlib.Omega.{arith}
+use lib.Dec.{ltb, eqb}
+use lib.IntN.{pos, negℤ}
+use lib.Signed.{leZ}
 use borrow.Author.Tests.{not-true, not-false, eq-eqb, ne-eqb, lt-leb, le-leb, lt-ltb, le-ltb}
+use Rattle.rules.specs.Areas.{low, bits, half, packet, stamp}
+use Rattle.rules.specs.Board.{clock}
+use Rattle.rules.specs.Board8.{board8}
+use Rattle.rules.specs.Clock.{offset}
+use Rattle.rules.specs.Questions.{slotSound}
+use Rattle.rules.proofs.FieldBytes.{stamp-one, packet-byte}
+use Rattle.passes.specs.Stores.{store}
+use Rattle.passes.proofs.SlotTests.{slot-sound-is}
 use borrow.Author.Needs.{needs}
 use Rattle.sound.proofs.slot_sound.Statement.{statement}
 use Rattle.sound.proofs.slot_sound.Tie as tie
+
+-- Where the mask is at most 31 and the delay is known, the tests of the delay, the offset and the header decide.
+module _ (c : tie.After-since) where
+  abbrev a : tie.Start
+  a = c .before .before .before .before .before .before .before .before
+
+  abbrev x : ℕ
+  x = c .before .before .read2 .result
+
+  abbrev d : ℕ
+  d = c .since .result
+
+  by-delay : (t h : ℕ) (v w : Bool) → t ≡ board8 .get (a .args .state .now) clock
+      → v ≡ (leZ (negℤ (pos d)) (offset (bits 1) x t) && leZ (offset (bits 1) x t) (pos 126)) → h ≡ stamp 1 (packet (a .args .memory .now) (a .args .s .0))
+      → w ≡ (ltb d 128 && v && eqb h (c .before .read3 .result)) → w ≡ slotSound board8 (store (a .args .state .now) (a .args .memory .now)) (a .args .s .0)
+  unfolding half low
+  by-delay t h v w et ev eh e =
+      let m = c .before .before .before .before in
+      slot-sound-is board8 _ _ (m .before .read .result) x (c .before .read3 .result) t d h v w (m .before .read .ensures) (c .before .before .read2 .ensures) (c .before .read3 .ensures) et (c .since .ensures) ev eh
+      (e ∙ rw (ne-eqb _ _ (m .if1 .left), le-leb (m .before .read .result) 31 (omega arith)))
 
 read-requires : tie.Need-read-requires
 read-requires c κs = search needs
 
 returns : tie.Need-returns
-returns c =
-    let m = c .before in
-    slot-is _ _ _ _ _ _ _ _ _ _ (m .read .ensures) refl refl refl refl refl refl
-    (rw (eq-eqb _ _ (c .if1 .taken)))
+returns c = slot-sound-is board8 _ _ _ _ _ _ _ _ _ _ (c .before .read .ensures) refl refl refl refl refl refl (rw (eq-eqb _ _ (c .if1 .taken)))
 
 returns-2 : tie.Need-returns-2
-returns-2 c =
-    let m = c .before .before in
-    slot-is _ _ _ _ _ _ _ _ _ _ (m .read .ensures) refl refl refl refl refl refl
-    (rw (ne-eqb _ _ (c .before .if1 .left), lt-leb (m .read .result) 31 (omega arith)))
+returns-2 c = slot-sound-is board8 _ _ _ _ _ _ _ _ _ _ (c .before .before .read .ensures) refl refl refl refl refl refl (rw (ne-eqb _ _ (c .before .if1 .left), lt-leb (c .before .before .read .result) 31 (omega arith)))
 
 read-requires-2 : tie.Need-read-requires-2
 read-requires-2 c κs = search needs
@@ -32,13 +58,7 @@ since-requires : tie.Need-since-requires
 since-requires c κs = search needs
 
 returns-3 : tie.Need-returns-3
-returns-3 c =
-    let d = c .before in
-    let y = d .before in
-    let x = y .before in
-    let m = x .before .before .before in
-    slot-is _ _ _ _ _ _ _ _ _ _ (m .read .ensures) (x .read2 .ensures) (y .read3 .ensures) refl (d .since .ensures) refl refl
-    (rw (ne-eqb _ _ (x .before .before .if1 .left), le-leb (m .read .result) 31 (omega arith), le-ltb (d .since .result) 128 (omega arith)))
+returns-3 c = by-delay (c .before) _ _ _ _ refl refl refl (rw (le-ltb (c .before .since .result) 128 (omega arith)))
 
 read-requires-4 : tie.Need-read-requires-4
 read-requires-4 c κs = search needs
@@ -47,15 +67,9 @@ offset-sound-requires : tie.Need-offset-sound-requires
 offset-sound-requires c κs = search needs
 
 returns-4 : tie.Need-returns-4
-returns-4 c =
-    let o = c .before in
-    let t = o .before in
-    let d = t .before .before in
-    let y = d .before in
-    let x = y .before in
-    let m = x .before .before .before in
-    slot-is _ _ _ _ _ _ _ _ _ _ (m .read .ensures) (x .read2 .ensures) (y .read3 .ensures) (t .read4 .ensures) (d .since .ensures) (o .offset-sound .ensures) refl
-    (rw (ne-eqb _ _ (x .before .before .if1 .left), le-leb (m .read .result) 31 (omega arith), lt-ltb (d .since .result) 128 (omega arith), not-true (o .offset-sound .result) (c .if4 .taken)))
+returns-4 c = let d = c .before .before .before .before in
+    by-delay d _ _ _ _ (c .before .before .read4 .ensures) (c .before .offset-sound .ensures) refl
+    (rw (lt-ltb (d .since .result) 128 (omega arith), not-true (c .before .offset-sound .result) (c .if4 .taken)))
 
 cast-result : tie.Need-cast-result
 cast-result c = search needs
@@ -70,15 +84,10 @@ shared-slice-read-result : tie.Need-shared-slice-read-result
 shared-slice-read-result c = search needs
 
 returns-5 : tie.Need-returns-5
-returns-5 c =
-    let o = c .before .before .before .before in
-    let t = o .before in
-    let d = t .before .before in
-    let y = d .before in
-    let x = y .before in
-    let m = x .before .before .before in
-    slot-is _ _ _ _ _ _ _ _ _ _ (m .read .ensures) (x .read2 .ensures) (y .read3 .ensures) (t .read4 .ensures) (d .since .ensures) (o .offset-sound .ensures) refl
-    (rw (ne-eqb _ _ (x .before .before .if1 .left), le-leb (m .read .result) 31 (omega arith), lt-ltb (d .since .result) 128 (omega arith), not-false (o .offset-sound .result) (c .before .before .before .if4 .left)))
+returns-5 c = let o = c .before .before .before .before in
+    let d = o .before .before .before in
+    by-delay d _ _ _ _ (o .before .read4 .ensures) (o .offset-sound .ensures) (sym (stamp-one _ ∙ packet-byte _ _ 1 (omega arith)))
+    (rw (lt-ltb (d .since .result) 128 (omega arith), not-false (o .offset-sound .result) (c .before .before .before .if4 .left)))
 
 pub slot-sound-spec : {M : Type 1} → statement M
 slot-sound-spec =

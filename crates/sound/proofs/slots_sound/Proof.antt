@@ -1,27 +1,21 @@
--- `sound::slots_sound` meets its contract. The loop's invariant: the slots passed are sound.
--- The measure is how many are left. Assumes nothing.
-use Rattle.sound.proofs.Laws.{all-fails, all-more, all-done}
-use Rattle.rules.specs.Indices.{all}
+-- `sound::slots_sound` meets its contract. The loop's invariant: the slots passed are sound. The measure is how many are left. Assumes nothing.
+use Prim.Native.Nat.{_-_}
 use Rattle.rules.specs.Board8.{board8}
 use Rattle.rules.specs.Questions.{slotSound, slotsSound}
-use native.Mathlib.Omega.{arith}
-use mathlib.Core.Bool.{true}
-use mathlib.Core.Path.{_≡_, refl, sym, _∙_}
-use Prim.Native.Nat.{_≤_, _-_}
+use Rattle.passes.proofs.FirstFailure.{Passed, passed-none, passed-next, fails-at, passed-all}
+use Rattle.passes.specs.Stores.{store}
 use borrow.Author.Needs.{needs}
-use borrow.Author.Tests.{not-true, not-false}
 use Rattle.sound.proofs.slots_sound.Statement.{statement}
 use Rattle.sound.proofs.slots_sound.Tie as tie
 
 abbrev Inv-loop : tie.InvT-loop
-Inv-loop state memory i₀ i = (i ≤ 256) × (true ≡ all i (slotSound board8 (record { state = state; memory = memory })))
+Inv-loop state memory i₀ i = Passed 256 (slotSound board8 (store state memory)) i
 
 abbrev μ-loop : tie.MeasureT-loop
 μ-loop state memory i₀ i = 256 - i
 
 loop-holds : tie.Need-loop-holds Inv-loop μ-loop
-unfolding all
-loop-holds c = (search needs, refl)
+loop-holds c = passed-none _ _
 
 cast-t5 : tie.Need-cast-t5 Inv-loop μ-loop
 cast-t5 c = search needs
@@ -31,7 +25,7 @@ slot-sound-requires c κs = search needs
 
 returns : tie.Need-returns Inv-loop μ-loop
 unfolding slotsSound
-returns c = all-fails _ 256 (c .before .before .before .loop .i) (omega arith) (sym (not-true (c .before .slot-sound .result) (c .if1 .taken)) ∙ c .before .slot-sound .ensures)
+returns c = let l = c .before .before .before .loop in fails-at _ _ (l .i) _ (c .before .slot-sound .ensures) (c .before .before .loop-test .taken) (c .if1 .taken)
 
 add-i : tie.Need-add-i Inv-loop μ-loop
 add-i c = search needs
@@ -40,11 +34,11 @@ loop-less : tie.Need-loop-less Inv-loop μ-loop
 loop-less c = search needs
 
 loop-again : tie.Need-loop-again Inv-loop μ-loop
-loop-again c = (search needs, all-more _ _ (c .before .before .before .loop .inv .1) (sym (not-false (c .before .slot-sound .result) (c .if1 .left)) ∙ c .before .slot-sound .ensures))
+loop-again c = let l = c .before .before .before .loop in passed-next _ _ (l .i) _ (c .before .slot-sound .ensures) (l .inv) (c .before .before .loop-test .taken) (c .if1 .left)
 
 returns-2 : tie.Need-returns-2 Inv-loop μ-loop
 unfolding slotsSound
-returns-2 c = all-done _ 256 (c .before .loop .i) (omega arith) (c .before .loop .inv .1)
+returns-2 c = passed-all _ _ (c .before .loop .i) (c .before .loop .inv) (c .loop-test .left)
 
 pub slots-sound-spec : {M : Type 1} → statement M
 slots-sound-spec =

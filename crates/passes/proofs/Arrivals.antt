@@ -1,0 +1,128 @@
+-- Step 1 of a tick, arrivals, for any lawful board: questions 6 to 8, a packet placed, and port after port. Assumes nothing.
+use Prim.Native.Nat.{ℕ, suc, _+_, _-_, _*_, _<_, _≤_}
+use mathlib.Core.Path.{_≡_, refl, sym, ap, subst, _∙_}
+use mathlib.Core.Bool.{Bool, true, false, cond, not}
+use mathlib.Core.List.{List, [], _∷_}
+use native.Mathlib.Numerals.{add-one}
+use native.Mathlib.Omega.{arith}
+use lib.ListN.{length, set, replicate}
+use lib.Seq.{sets}
+use lib.Dec.{eqb}
+use lib.IntN.{pos, negℤ}
+use lib.Signed.{leZ}
+use borrow.Author.Tests.{eqb-false}
+use Rattle.rules.specs.Clock.{plus, offset}
+use Rattle.rules.specs.Areas.{Store, packetLength, byte, bits, packet, stamp, payload, packed, has, portsBelow, perPort}
+use Rattle.rules.specs.Board.{Board, clock, free, idle, time, deadline, mask, outgoing, delay, routes}
+use Rattle.rules.specs.SoundKept.{used}
+use Rattle.rules.specs.Tick.{arrival, placed, admitted, arrived}
+use Rattle.rules.proofs.AreaLaws.{filled, filled-next, filled-all}
+use Rattle.rules.proofs.BoardLaws.{Laws}
+use Rattle.rules.proofs.Offsets.{above}
+use Rattle.rules.proofs.Room.{placed-used}
+use Rattle.passes.specs.Stores.{store}
+use Rattle.passes.specs.Arrivals.{late, met}
+
+-- Of the questions' answers only the last is 1.
+only-stored : (here closed late full : Bool) → _≡_ {A = ℕ} (cond (not here) 0 (cond closed 6 (cond late 7 (cond full 8 1)))) 1 → full ≡ false
+only-stored false closed late full e = absurd (omega arith)
+only-stored true true late full e = absurd (omega arith)
+only-stored true false true full e = absurd (omega arith)
+only-stored true false false true e = absurd (omega arith)
+only-stored true false false false e = refl
+
+module _ (B : Board) where
+  open Board B using (clockBytes as c, stateLength, get, put)
+
+  -- ---- what an arrival meets
+
+  -- Below - d is the no to at least - d.
+  pub late-is : (s k : List ℕ) {x t d : ℕ} {a : Bool} → x ≡ stamp c k → t ≡ get s clock → d ≡ get s (delay (byte k 0)) → a ≡ leZ (negℤ (pos d)) (offset (bits c) x t) → not a ≡ late B s k
+  late-is s k ex et ed ea = rw (above, ea, ex, et, ed)
+
+  -- A stored packet has an idle address to take.
+  pub stored-has-free : (s k : List ℕ) (arriving p : ℕ) → arrival B s arriving p k ≡ 1 → 0 < get s free
+  unfolding arrival
+  stored-has-free s k arriving p e =
+      let m = get s (routes (byte k 0)) in
+      let n = get s free in
+      let h : (n ≡ 0 → ⊥) = eqb-false n 0 (only-stored (has arriving p) (eqb m 0) (late B s k) (eqb n 0) e) in
+      omega arith
+
+  -- ---- a packet placed
+
+  -- Read by read and store by store.
+  pub placed-is : (r : Store) (k : List ℕ) {x d y m o n i : ℕ} {l s₁ s₂ s₃ s₄ : List ℕ}
+      → x ≡ stamp c k
+      → d ≡ get (r .state) (delay (byte k 0))
+      → y ≡ plus (bits c) x d
+      → m ≡ get (r .state) (routes (byte k 0))
+      → o ≡ get (r .state) (outgoing (byte k 0))
+      → n ≡ get (r .state) free
+      → i ≡ get (r .state) (idle (n - 1))
+      → l ≡ sets (r .memory) (packetLength * i) (packed c o y (payload c k))
+      → s₁ ≡ put (r .state) free (n - 1)
+      → s₂ ≡ put s₁ (time i) x
+      → s₃ ≡ put s₂ (deadline i) y
+      → s₄ ≡ put s₃ (mask i) m
+      → store s₄ l ≡ placed B r k
+  unfolding placed
+  placed-is r k ex ed ey em eo en ei el e₁ e₂ e₃ e₄ = rw (e₄, e₃, e₂, e₁, el, ei, en, eo, em, ey, ed, ex)
+
+  -- It leaves room: the stack has one address less, and the slots one packet more at the most.
+  pub placed-leaves-room : (L : Laws B) (r : Store) (k : List ℕ) {n i : ℕ} {r′ : Store} → length (r .state) ≡ stateLength → 0 < get (r .state) free → n ≡ get (r .state) free → i ≡ get (r .state) (idle (n - 1)) → i < 256
+      → r′ ≡ placed B r k → used B (r .state) ≤ 256 → used B (r′ .state) ≤ 256
+  placed-leaves-room L r k sized some en ei hi e room =
+      let small = subst (λ (m : ℕ). get (r .state) (idle (m - 1)) < 256) en (subst (λ (m : ℕ). m < 256) ei hi) in
+      let u = placed-used B L r k sized some small in
+      subst (λ (s : List ℕ). used B s ≤ 256) (sym (ap (λ (x : Store). x .state) e)) (omega arith)
+
+  -- ---- port after port
+
+  module _ (r : Store) (arriving : ℕ) (area : List ℕ) where
+    -- The store and the answers after the arrivals on the ports below p: lengths and room are kept.
+    pub record ArrivedBelow (p : ℕ) (r′ : Store) (answers : List ℕ) : Type 0 where
+      pub within : p ≤ 5
+      pub state-kept : length (r′ .state) ≡ length (r .state)
+      pub memory-kept : length (r′ .memory) ≡ length (r .memory)
+      pub after : r′ ≡ arrived B p arriving area r
+      pub answered : answers ≡ filled 1 (λ q. met B r arriving area q ∷ []) (replicate 5 0) p
+      pub room : used B (r .state) ≤ 256 → used B (r′ .state) ≤ 256
+
+    -- At first it is the store met.
+    pub arrived-none : ArrivedBelow 0 r (replicate 5 0)
+    unfolding arrived portsBelow
+    arrived-none = record { within = omega arith; state-kept = refl; memory-kept = refl; after = refl; answered = refl; room = λ h. h }
+
+    -- One port more: its packet k meets a, which is answered.
+    pub arrived-next : {p a : ℕ} {r′ r″ : Store} {k l : List ℕ} → ArrivedBelow p r′ l → p < 5 → k ≡ packet area p → a ≡ arrival B (r′ .state) arriving p k → r″ ≡ admitted B r′ arriving p k
+        → length (r″ .state) ≡ length (r′ .state) → length (r″ .memory) ≡ length (r′ .memory) → (used B (r′ .state) ≤ 256 → used B (r″ .state) ≤ 256) → ArrivedBelow (p + 1) r″ (set l p a)
+    unfolding arrived
+    arrived-next {p} {a} {r′} {r″} {k} {l} A h ek ea e ls lm room = rw (add-one p) (record {
+      within = omega (arith, A .within);
+      state-kept = ls ∙ A .state-kept;
+      memory-kept = lm ∙ A .memory-kept;
+      after = e ∙ rw (ek, A .after);
+      answered = answer;
+      room = λ u. room (A .room u);
+    })
+      where
+        f : ℕ → List ℕ
+        f q = met B r arriving area q ∷ []
+
+        d : List ℕ
+        d = replicate 5 0
+
+        one : 1 * p ≡ p
+        one = omega arith
+
+        answer : set l p a ≡ filled 1 f d (suc p)
+        answer = rw (A .answered, ea, ek, A .after) (subst (λ (i : ℕ). set (filled 1 f d p) i (met B r arriving area p) ≡ filled 1 f d (suc p)) one (filled-next 1 f d p (λ q i. refl) (omega arith)))
+
+    -- After all five.
+    pub arrived-all : {p : ℕ} {r′ : Store} {l : List ℕ} → ArrivedBelow p r′ l → 5 ≤ p → (l ≡ perPort (λ q. met B r arriving area q ∷ [])) × (r′ ≡ arrived B 5 arriving area r)
+    arrived-all {p} {r′} {l} A h =
+        let e : p ≡ 5 = omega (arith, A .within) in
+        let f : ℕ → List ℕ = λ q. met B r arriving area q ∷ [] in
+        let d : List ℕ = replicate 5 0 in
+        (subst (λ (n : ℕ). l ≡ filled 1 f d n) e (A .answered) ∙ filled-all 1 f d 5 refl, subst (λ (n : ℕ). r′ ≡ arrived B n arriving area r) e (A .after))
