@@ -10,7 +10,7 @@ ghost use Rattle.rules.specs.Board8.{board8};
 ghost use Rattle.rules.specs.Tick.{arrival, placed, admitted, arrived};
 ghost use Rattle.layout.specs.Room.{Room};
 ghost use Rattle.passes.specs.Stores.{store};
-ghost use Rattle.passes.specs.Arrivals.{late, met};
+ghost use Rattle.passes.specs.Arrivals.{inTime, met};
 ghost use Rattle.arrive.specs.Numbers.{number};
 use layout::ClockReading;
 use layout::ConnectionId;
@@ -39,15 +39,15 @@ fn number(a: Arrival) -> u8
     }
 }
 
-// Question 7: is the offset below -d?
-fn is_late(state: &[u8], packet: &[u8]) -> bool
+// Question 7: is the offset at least -d?
+fn in_time(state: &[u8], packet: &[u8]) -> bool
     requires { ⌜ length (now packet) ≡ packetLength ⌝ }
-    ensures { λ r. ⌜ r ≡ late board8 (now (state .entry)) (now (packet .entry)) ⌝ }
+    ensures { λ r. ⌜ r ≡ inTime board8 (now (state .entry)) (now (packet .entry)) ⌝ }
 {
     let time = ClockReading(packet[1]);
     let t = ClockReading(layout::get(state, Field::Clock));
     let d = layout::get(state, Field::Delay(ConnectionId(packet[0])));
-    !clock::in_time(time, t, d)
+    clock::in_time(time, t, d)
 }
 
 // Questions 6 to 8.
@@ -61,7 +61,7 @@ fn meets(state: &[u8], packet: &[u8], arriving: u8, port: u8) -> Arrival
     if layout::get(state, Field::Routes(ConnectionId(packet[0]))) == 0 {
         return Arrival::Closed;
     }
-    if is_late(state, packet) {
+    if !in_time(state, packet) {
         return Arrival::Late;
     }
     if layout::free_count(state) == 0 {

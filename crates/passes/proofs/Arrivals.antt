@@ -14,39 +14,48 @@ use borrow.Author.Tests.{eqb-false}
 use Rattle.rules.specs.Clock.{plus, offset}
 use Rattle.rules.specs.Areas.{Store, packetLength, byte, bits, packet, stamp, payload, packed, has, portsBelow, perPort}
 use Rattle.rules.specs.Board.{Board, clock, free, idle, time, deadline, mask, outgoing, delay, routes}
-use Rattle.rules.specs.SoundKept.{used}
-use Rattle.rules.specs.Tick.{arrival, placed, admitted, arrived}
+use Rattle.rules.specs.Questions.{used}
+use Rattle.rules.specs.Asked.{asked, arrivalQuestions, arrivalAnswer}
+use Rattle.rules.specs.Tick.{arrivalRefusal, arrival, placed, admitted, arrived}
 use Rattle.rules.proofs.AreaLaws.{filled, filled-next, filled-all}
 use Rattle.rules.proofs.BoardLaws.{Laws}
-use Rattle.rules.proofs.Offsets.{above}
+use Rattle.rules.proofs.Booleans.{not-false}
 use Rattle.rules.proofs.Room.{placed-used}
 use Rattle.passes.specs.Stores.{store}
-use Rattle.passes.specs.Arrivals.{late, met}
+use Rattle.passes.specs.Arrivals.{inTime, met}
 
--- Of the questions' answers only the last is 1.
-only-stored : (here closed late full : Bool) → _≡_ {A = ℕ} (cond (not here) 0 (cond closed 6 (cond late 7 (cond full 8 1)))) 1 → full ≡ false
-only-stored false closed late full e = absurd (omega arith)
-only-stored true true late full e = absurd (omega arith)
-only-stored true false true full e = absurd (omega arith)
-only-stored true false false true e = absurd (omega arith)
-only-stored true false false false e = refl
+-- Only an arrival that has passed all questions is answered by 1.
+only-stored : (here routed inTime room : Bool) → cond here (arrivalAnswer (asked (arrivalQuestions routed inTime room))) 0 ≡ 1 → room ≡ true
+unfolding arrivalAnswer asked
+only-stored false routed inTime room e = absurd (omega arith)
+only-stored true false inTime room e = absurd (omega arith)
+only-stored true true false room e = absurd (omega arith)
+only-stored true true true false e = absurd (omega arith)
+only-stored true true true true e = refl
+
+-- Where question 6 is passed, 7 and 8 decide.
+pub routed-answer : (inTime full : Bool) → arrivalAnswer (asked (arrivalQuestions true inTime (not full))) ≡ cond inTime (cond full 8 1) 7
+unfolding arrivalAnswer asked
+routed-answer false full = refl
+routed-answer true true = refl
+routed-answer true false = refl
 
 module _ (B : Board) where
   open Board B using (clockBytes as c, stateLength, get, put)
 
   -- ---- what an arrival meets
 
-  -- Below - d is the no to at least - d.
-  pub late-is : (s k : List ℕ) {x t d : ℕ} {a : Bool} → x ≡ stamp c k → t ≡ get s clock → d ≡ get s (delay (byte k 0)) → a ≡ leZ (negℤ (pos d)) (offset (bits c) x t) → not a ≡ late B s k
-  late-is s k ex et ed ea = rw (above, ea, ex, et, ed)
+  -- Question 7, read by read.
+  pub inTime-read : (s k : List ℕ) {x t d : ℕ} {a : Bool} → x ≡ stamp c k → t ≡ get s clock → d ≡ get s (delay (byte k 0)) → a ≡ leZ (negℤ (pos d)) (offset (bits c) x t) → a ≡ inTime B s k
+  inTime-read s k ex et ed ea = rw (ea, ex, et, ed)
 
   -- A stored packet has an idle address to take.
   pub stored-has-free : (s k : List ℕ) (arriving p : ℕ) → arrival B s arriving p k ≡ 1 → 0 < get s free
-  unfolding arrival
+  unfolding arrival arrivalRefusal
   stored-has-free s k arriving p e =
       let m = get s (routes (byte k 0)) in
       let n = get s free in
-      let h : (n ≡ 0 → ⊥) = eqb-false n 0 (only-stored (has arriving p) (eqb m 0) (late B s k) (eqb n 0) e) in
+      let h : (n ≡ 0 → ⊥) = eqb-false n 0 (not-false (eqb n 0) (only-stored (has arriving p) (not (eqb m 0)) (inTime B s k) (not (eqb n 0)) e)) in
       omega arith
 
   -- ---- a packet placed

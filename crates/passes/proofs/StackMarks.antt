@@ -14,7 +14,7 @@ use Rattle.rules.specs.Indices.{all, topFirst}
 use Rattle.rules.specs.Areas.{elem, distinct}
 use Rattle.rules.specs.Board.{Board, free, idle}
 use Rattle.rules.specs.Questions.{stack, listed, stackSound}
-use Rattle.rules.specs.SoundKept.{used}
+use Rattle.rules.specs.Questions.{used}
 use Rattle.rules.proofs.BoardLaws.{Laws}
 use Rattle.rules.proofs.Room.{sound-used}
 use Rattle.passes.specs.Stack.{entries, Marked}

@@ -3,7 +3,7 @@ use Prim.Native.Nat.{ℕ}
 use mathlib.Core.Bool.{Bool}
 use mathlib.Core.List.{List}
 use lib.IntN.{pos, negℤ}
-use lib.Signed.{ltZ}
+use lib.Signed.{leZ}
 use Rattle.rules.specs.Clock.{offset}
 use Rattle.rules.specs.Areas.{Store, byte, bits, packet, stamp}
 use Rattle.rules.specs.Board.{Board, clock, delay}
@@ -12,9 +12,9 @@ use Rattle.rules.specs.Tick.{arrival, arrived}
 module _ (B : Board) where
   open Board B using (clockBytes as c, get)
 
-  -- The packet k's offset is below - d: the no to question 7.
-  abbrev pub late : List ℕ → List ℕ → Bool
-  late s k = ltZ (offset (bits c) (stamp c k) (get s clock)) (negℤ (pos (get s (delay (byte k 0)))))
+  -- Question 7 of the packet k: its offset is at least - d.
+  abbrev pub inTime : List ℕ → List ℕ → Bool
+  inTime s k = leZ (negℤ (pos (get s (delay (byte k 0))))) (offset (bits c) (stamp c k) (get s clock))
 
   -- What the arrival on port p meets, after those on the ports below p.
   abbrev pub met : Store → ℕ → List ℕ → ℕ → ℕ

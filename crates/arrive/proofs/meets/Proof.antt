@@ -3,11 +3,13 @@ use mathlib.Core.Bool.{cond}
 use mathlib.Core.Path.{_≡_}
 use native.Mathlib.Omega.{arith}
 use lib.Dec.{eqb}
-use borrow.Author.Tests.{eq-eqb, ne-eqb}
+use borrow.Author.Tests.{not-true, not-false, eq-eqb, ne-eqb}
 use Rattle.rules.specs.Board.{free}
 use Rattle.rules.specs.Board8.{board8}
-use Rattle.rules.specs.Tick.{arrival}
-use Rattle.passes.specs.Arrivals.{late}
+use Rattle.rules.specs.Tick.{arrivalRefusal, arrival}
+use Rattle.rules.specs.Asked.{asked, arrivalAnswer}
+use Rattle.passes.specs.Arrivals.{inTime}
+use Rattle.passes.proofs.Arrivals.{routed-answer}
 use borrow.Author.Needs.{needs}
 use Rattle.arrive.proofs.meets.Statement.{statement}
 use Rattle.arrive.proofs.meets.Tie as tie
@@ -15,18 +17,18 @@ use Rattle.arrive.proofs.meets.Tie as tie
 -- Where question 6 is passed, 7 and 8 decide.
 at-open-entry : (c : tie.Else2) → let a = c .before .before .before .before .before .before .before .args in
     let s = a .state .now in
-    arrival board8 s (a .arriving) (a .port) (a .packet .now) ≡ cond (late board8 s (a .packet .now)) 7 (cond (eqb (board8 .get s free) 0) 8 1)
-unfolding arrival
+    arrival board8 s (a .arriving) (a .port) (a .packet .now) ≡ cond (inTime board8 s (a .packet .now)) (cond (eqb (board8 .get s free) 0) 8 1) 7
+unfolding arrival arrivalRefusal arrivalAnswer asked
 at-open-entry c =
     let h = c .before .before .before in
-    rw (← h .before .has-port .ensures, h .if1 .left, ← c .before .get .ensures, ne-eqb (c .before .get .result) 0 (λ e. omega arith))
+    rw (← h .before .has-port .ensures, not-false (h .before .has-port .result) (h .if1 .left), ← c .before .get .ensures, ne-eqb (c .before .get .result) 0 (λ e. omega arith)) (routed-answer _ _)
 
 has-port-requires : tie.Need-has-port-requires
 has-port-requires c κs = search needs
 
 returns : tie.Need-returns
-unfolding arrival
-returns c = rw (← c .before .has-port .ensures, c .if1 .taken)
+unfolding arrival arrivalRefusal arrivalAnswer asked
+returns c = rw (← c .before .has-port .ensures, not-true (c .before .has-port .result) (c .if1 .taken))
 
 shared-slice-read-t9 : tie.Need-shared-slice-read-t9
 shared-slice-read-t9 c = search needs
@@ -35,26 +37,26 @@ get-requires : tie.Need-get-requires
 get-requires c κs = search needs
 
 returns-2 : tie.Need-returns-2
-unfolding arrival
+unfolding arrival arrivalRefusal arrivalAnswer asked
 returns-2 c = let h = c .before .before .before in
-    rw (← h .before .has-port .ensures, h .if1 .left, ← c .before .get .ensures, eq-eqb (c .before .get .result) 0 (omega arith))
+    rw (← h .before .has-port .ensures, not-false (h .before .has-port .result) (h .if1 .left), ← c .before .get .ensures, eq-eqb (c .before .get .result) 0 (omega arith))
 
-is-late-requires : tie.Need-is-late-requires
-is-late-requires c κs = search needs
+in-time-requires : tie.Need-in-time-requires
+in-time-requires c κs = search needs
 
 returns-3 : tie.Need-returns-3
-returns-3 c = rw (at-open-entry (c .before .before), ← c .before .is-late .ensures, c .if3 .taken)
+returns-3 c = rw (at-open-entry (c .before .before), ← c .before .in-time .ensures, not-true (c .before .in-time .result) (c .if3 .taken))
 
 free-count-requires : tie.Need-free-count-requires
 free-count-requires c κs = search needs
 
 returns-4 : tie.Need-returns-4
 returns-4 c = let l = c .before .before in
-    rw (at-open-entry (l .before .before), ← l .before .is-late .ensures, l .if3 .left, ← c .before .free-count .ensures, eq-eqb (c .before .free-count .result) 0 (omega arith))
+    rw (at-open-entry (l .before .before), ← l .before .in-time .ensures, not-false (l .before .in-time .result) (l .if3 .left), ← c .before .free-count .ensures, eq-eqb (c .before .free-count .result) 0 (omega arith))
 
 returns-5 : tie.Need-returns-5
 returns-5 c = let l = c .before .before in
-    rw (at-open-entry (l .before .before), ← l .before .is-late .ensures, l .if3 .left, ← c .before .free-count .ensures, ne-eqb (c .before .free-count .result) 0 (λ e. omega arith))
+    rw (at-open-entry (l .before .before), ← l .before .in-time .ensures, not-false (l .before .in-time .result) (l .if3 .left), ← c .before .free-count .ensures, ne-eqb (c .before .free-count .result) 0 (λ e. omega arith))
 
 pub meets-spec : {M : Type 1} → statement M
 meets-spec =
@@ -65,7 +67,7 @@ meets-spec =
     shared-slice-read-t9
     get-requires
     returns-2
-    is-late-requires
+    in-time-requires
     returns-3
     free-count-requires
     returns-4

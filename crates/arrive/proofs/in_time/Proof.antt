@@ -1,11 +1,11 @@
--- `arrive::is_late` meets its contract: `in_time` tells whether the offset is at least - d, and the answer is its no. Assumes nothing.
+-- `arrive::in_time` meets its contract: `clock::in_time` tells whether the offset is at least - d. Assumes nothing.
 use mathlib.Core.Path.{sym}
 use Rattle.rules.specs.Board8.{board8}
 use Rattle.rules.proofs.FieldBytes.{stamp-one}
-use Rattle.passes.proofs.Arrivals.{late-is}
+use Rattle.passes.proofs.Arrivals.{inTime-read}
 use borrow.Author.Needs.{needs}
-use Rattle.arrive.proofs.is_late.Statement.{statement}
-use Rattle.arrive.proofs.is_late.Tie as tie
+use Rattle.arrive.proofs.in_time.Statement.{statement}
+use Rattle.arrive.proofs.in_time.Tie as tie
 
 shared-slice-read-t7 : tie.Need-shared-slice-read-t7
 shared-slice-read-t7 c = search needs
@@ -24,10 +24,11 @@ in-time-requires c κs = search needs
 
 returns : tie.Need-returns
 returns c = let t = c .before .before .before in
-    late-is board8 _ _ (sym (stamp-one _)) (t .get .ensures) (c .before .get2 .ensures) (c .in-time .ensures)
+    let a = t .before .before .before .before .args in
+    inTime-read board8 (a .state .now) (a .packet .now) (sym (stamp-one (a .packet .now))) (t .get .ensures) (c .before .get2 .ensures) (c .in-time .ensures)
 
-pub is-late-spec : {M : Type 1} → statement M
-is-late-spec =
+pub in-time-spec : {M : Type 1} → statement M
+in-time-spec =
     tie.close
     (tie.spec
     shared-slice-read-t7
