@@ -21,7 +21,8 @@ at-open-entry : (c : tie.Else2) → let a = c .before .before .before .before .b
 unfolding arrival arrivalRefusal arrivalAnswer asked
 at-open-entry c =
     let h = c .before .before .before in
-    rw (← h .before .has-port .ensures, not-false (h .before .has-port .result) (h .if1 .left), ← c .before .get .ensures, ne-eqb (c .before .get .result) 0 (λ e. omega arith)) (routed-answer _ _)
+    let a = h .before .before .before .before .args in
+    rw (← h .before .has-port .ensures, not-false (h .before .has-port .result) (h .if1 .left), ← c .before .get .ensures, ne-eqb (c .before .get .result) 0 (λ e. omega arith)) (routed-answer (inTime board8 (a .state .now) (a .packet .now)) (eqb (board8 .get (a .state .now) free) 0))
 
 has-port-requires : tie.Need-has-port-requires
 has-port-requires c κs = search needs
