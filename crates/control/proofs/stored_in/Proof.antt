@@ -41,7 +41,7 @@ use denote.Triple.Spec.{Meets, tripleOf}
 use denote.Triple.Table.{entered, cited}
 use denote.Triple.Walked.{says, Stays, stay-none, walkOf, goes-none, ends-at, walked, walk-meets}
 use denote.Exit.{yes}
-use Rattle.control.specs.Latches.{stored}
+use Rattle.control.specs.Latches.{latchWith}
 use Rattle.control.specs.declared.Latch.{Latch}
 use Rattle.control.proofs.Latch as T
 use Rattle.control.proofs.Latch.Laws as T′
@@ -67,7 +67,7 @@ module _ {M : Type 1} (𝓤 : URA M) (H : Heap 𝓤) (A : Atoms 𝓤) (W : Given
   mach = LL.val T.the-type T′.the-laws h
 
   abbrev next : Latch
-  next = stored h n v
+  next = latchWith h n v
 
   abbrev bound : walkOf 𝓤 H A f.ended stayed (f.clauses 𝓤 H A at-mem run) .Ghost
   bound = ((tt, tt, tt, (h, (n, (v, tt))), (mach ∷ [], at-bytes n v)), tt)
@@ -82,8 +82,10 @@ module _ {M : Type 1} (𝓤 : URA M) (H : Heap 𝓤) (A : Atoms 𝓤) (W : Given
   module _ (C : Calls 𝓤 H) (Λ : Loops 𝓤 H) (fm : FmC 𝓤 H (W .laws) C) (known : Triple 𝓤 (C #control·store) (Store 𝓤 H A at-mem run)) where
     walk : ent 𝓤 (onEntry 𝓤 H A f.signature tt tt (h, (n, (v, tt))) (mach ∷ [], at-bytes n v)) (WpFn 𝓤 H C Λ code.function (mach ∷ vint w8 n ∷ vint w8 v ∷ []) (walkOf 𝓤 H A f.ended stayed (f.clauses 𝓤 H A at-mem run) .post bound))
     walk =
-        qed W (‵ ftrue ∷ ‵ (owns (T.the-row ∷ u8 ∷ u8 ∷ []) (h, (n, (v, tt))) (mach ∷ [], at-bytes n v)) ∷ []) ∵ move ! (1 ∷ []) $ fsplit ! $ keep ! (0 ∷ []) $ typed ! h mach (λ wt. enter ! C Λ code.function (mach ∷ vint w8 n ∷ vint w8 v ∷ []) _ $
-        alloc1 ! (λ l₀. alloc1 ! (λ l₁. alloc1 ! (λ l₂. alloc1 ! (λ l₃. alloc1 ! (λ l₄. alloc1 ! (λ l₅. alloc1 ! (λ l₆. alloc0 ! $ params1 ! $ pass1 ! (init ! 10 refl wt) $ pass1 ! (init ! 8 refl (tt, record { fits = n-fits })) $ pass1 ! (init ! 6 refl (tt, record { fits = v-fits })) $ pass0 ! $
+        qed W (‵ ftrue ∷ ‵ (owns (T.the-row ∷ u8 ∷ u8 ∷ []) (h, (n, (v, tt))) (mach ∷ [], at-bytes n v)) ∷ []) ∵ move ! (1 ∷ []) $ fsplit ! $ keep ! (0 ∷ []) $
+        typed ! h mach (λ wt. enter ! C Λ code.function (mach ∷ vint w8 n ∷ vint w8 v ∷ []) _ $
+        alloc1 ! (λ l₀. alloc1 ! (λ l₁. alloc1 ! (λ l₂. alloc1 ! (λ l₃. alloc1 ! (λ l₄. alloc1 ! (λ l₅. alloc1 ! (λ l₆. alloc0 ! $ params1 ! $ pass1 ! (init ! 10 refl wt) $
+        pass1 ! (init ! 8 refl (tt, record { fits = n-fits })) $ pass1 ! (init ! 6 refl (tt, record { fits = v-fits })) $ pass0 ! $
         -- [_6; …; _5; …; _4; …; _3; …; _2; …; _1; …; room for _0; …; what the latch owns]
         assigns ! (of-opd ! (load ! (from ! (stop !)) (look ! 10 refl))) (from ! (stop !)) (init ! 4 refl wt) $
         assigns ! (addr ! (from ! (stop !))) (from ! (stop !)) (init ! 0 refl (tt, tt)) $
@@ -104,7 +106,8 @@ module _ {M : Type 1} (𝓤 : URA M) (H : Heap 𝓤) (A : Atoms 𝓤) (W : Given
         -- [what the result owns; _4; _6; …; _5; …; _4's end; _3; …]
         assigns ! (of-opd ! (load ! (from ! (stop !)) (look ! 1 refl))) (from ! (stop !)) (init ! 13 refl wt′) $
         returns ! (look ! 13 refl) $ forget ! 1 refl $ forget ! 2 refl $ forget ! 4 refl $ forget ! 7 refl $ forget ! 9 refl $ forget ! 11 refl $ forget ! 13 refl $
-        move ! (13 ∷ 14 ∷ []) $ free1 ! $ move ! (11 ∷ 12 ∷ []) $ free1 ! $ move ! (9 ∷ 10 ∷ []) $ free1 ! $ move ! (7 ∷ 8 ∷ []) $ free1 ! $ move ! (1 ∷ 6 ∷ []) $ free1 ! $ move ! (3 ∷ 4 ∷ []) $ free1 ! $ move ! (1 ∷ 2 ∷ []) $ free1 ! $ free0 ! $
+        move ! (13 ∷ 14 ∷ []) $ free1 ! $ move ! (11 ∷ 12 ∷ []) $ free1 ! $ move ! (9 ∷ 10 ∷ []) $ free1 ! $ move ! (7 ∷ 8 ∷ []) $ free1 ! $ move ! (1 ∷ 6 ∷ []) $ free1 ! $ move ! (3 ∷ 4 ∷ []) $
+        free1 ! $ move ! (1 ∷ 2 ∷ []) $ free1 ! $ free0 ! $
         suffices ! _ (ends-at 𝓤 H A f.ended stayed (f.clauses 𝓤 H A at-mem run) W bound u next (tt, (tt, (tt, tt))) (tt, (tt, (tt, tt)))) $ says ! refl $
         bytes ! n v n-fits v-fits $ owned ! T.the-row (Is T.the-row) (LL.makes T.the-type T′.the-plain 𝓤 H A) h _ h-is $ fjoin ! $ nothing ! $ done !)))))))))))))))))
 
