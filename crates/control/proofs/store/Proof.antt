@@ -75,10 +75,8 @@ module _ {M : Type 1} (𝓤 : URA M) (H : Heap 𝓤) (A : Atoms 𝓤) (W : Given
   module _ (C : Calls 𝓤 H) (Λ : Loops 𝓤 H) (fm : FmC 𝓤 H (W .laws) C) (known : Triple 𝓤 (C #control·Latch·with) (With 𝓤 H A at-mem run)) where
     walk : ent 𝓤 (onEntry 𝓤 H A f.signature (κ, tt) (q, tt) x (vptr b o ∷ [], at-bytes n v)) (WpFn 𝓤 H C Λ code.function (vptr b o ∷ vint w8 n ∷ vint w8 v ∷ []) (walkOf 𝓤 H A f.ended stayed (f.clauses 𝓤 H A at-mem run) .post bound))
     walk =
-        qed W ((‵ (flft κ q) ⊛ ‵ ftrue) ∷ ‵ (owns (MutRef (named 0) κ T.the-row ∷ u8 ∷ u8 ∷ []) x (vptr b o ∷ [], at-bytes n v)) ∷ []) ∵ split ! $ move ! (2 ∷ []) $ fsplit ! $ fsplit3 ! $
-        keep ! (1 ∷ 2 ∷ 4 ∷ []) $ enter ! C Λ code.function (vptr b o ∷ vint w8 n ∷ vint w8 v ∷ []) _ $
-        alloc1 ! (λ l₀. alloc1 ! (λ l₁. alloc1 ! (λ l₂. alloc1 ! (λ l₃. alloc1 ! (λ l₄. alloc1 ! (λ l₅. alloc0 ! $ params1 ! $ pass1 ! (init ! 8 refl (tt, tt)) $
-        pass1 ! (init ! 6 refl (tt, record { fits = n-fits })) $ pass1 ! (init ! 4 refl (tt, record { fits = v-fits })) $ pass0 ! $
+        qed W ((‵ (flft κ q) ⊛ ‵ ftrue) ∷ ‵ (owns (MutRef (named 0) κ T.the-row ∷ u8 ∷ u8 ∷ []) x (vptr b o ∷ [], at-bytes n v)) ∷ []) ∵ split ! $ move ! (2 ∷ []) $ fsplit ! $ fsplit3 ! $ keep ! (1 ∷ 2 ∷ 4 ∷ []) $ enter ! C Λ code.function (vptr b o ∷ vint w8 n ∷ vint w8 v ∷ []) _ $
+        alloc1 ! (λ l₀. alloc1 ! (λ l₁. alloc1 ! (λ l₂. alloc1 ! (λ l₃. alloc1 ! (λ l₄. alloc1 ! (λ l₅. alloc0 ! $ params1 ! $ pass1 ! (init ! 8 refl (tt, tt)) $ pass1 ! (init ! 6 refl (tt, record { fits = n-fits })) $ pass1 ! (init ! 4 refl (tt, record { fits = v-fits })) $ pass0 ! $
         -- the borrow is opened
         move ! (12 ∷ 13 ∷ 14 ∷ []) $ opens ! tt T.the-row {h = h} b o (λ vs. spelt ! T.the-row (Is T.the-row) (shows 𝓤 H A T.the-row) (LL.vals T.the-type T′.the-laws) (LL.tells T.the-type T′.the-laws) fullShare h vs b o $ move ! (1 ∷ []) $ typed ! h mach (λ wt.
         -- [what the latch owns; the struct's cell; the open borrow; obs; auth; _5; …; _4; …; _3; …; _2; …; _1; …; room for _0; …]
@@ -87,8 +85,7 @@ module _ {M : Type 1} (𝓤 : URA M) (H : Heap 𝓤) (A : Atoms 𝓤) (W : Given
         calls-at ! fm (With 𝓤 H A at-mem run) known to-with (and-then ! (load ! (from ! (stop !)) (look ! 5 refl)) (and-then ! (load ! (from ! (stop !)) (look ! 11 refl)) (and-then ! (load ! (from ! (stop !)) (look ! 9 refl)) (no-more !)))) (λ w.
         use1 W (later (some (λ (r : Latch). (‵ ftrue ⊛ ‵ (T.the-row .own r (w ∷ []))) ⊛ raw (ensured 𝓤 H A by-value.ended (by-value.clauses 𝓤 H A at-mem run) tt (h, (n, (v, tt))) tt r)))) (id⊢ 𝓤 _) $ await ! tt $ pick ! (λ r.
         -- of what `with` ensures, the clause alone
-        split ! $ move ! (1 ∷ []) $ use1 W (raw (fact 𝓤 (r ≡ latchWith h n v))) (exE 𝓤 _ (λ z. snd∗ 𝓤 (sem 𝓤 H A (lasts by-value.ended tt (h, (n, (v, tt))) z)) (fact 𝓤 (r ≡ latchWith h n v)))) $
-        heard ! (r ≡ latchWith h n v) (λ e. split ! $ drop ! $ typed ! r w (λ wt′.
+        split ! $ move ! (1 ∷ []) $ use1 W (raw (fact 𝓤 (r ≡ latchWith h n v))) (exE 𝓤 _ (λ z. snd∗ 𝓤 (sem 𝓤 H A (lasts by-value.ended tt (h, (n, (v, tt))) z)) (fact 𝓤 (r ≡ latchWith h n v)))) $ heard ! (r ≡ latchWith h n v) (λ e. split ! $ drop ! $ typed ! r w (λ wt′.
         -- [what the result owns; the struct's cell; the open borrow; obs; auth; _5; …; _4; …]
         land ! (from ! (stop !)) (init ! 7 refl wt′) $
         assigns ! (of-opd ! (load ! (from ! (stop !)) (look ! 7 refl))) (from ! (hop ! (look ! 13 refl) (stop !))) (store-raw ! 1 refl wt′) $
@@ -98,8 +95,7 @@ module _ {M : Type 1} (𝓤 : URA M) (H : Heap 𝓤) (A : Atoms 𝓤) (W : Given
         returns ! (look ! 13 refl) $ forget ! 3 refl $ forget ! 5 refl $ forget ! 7 refl $ forget ! 9 refl $ forget ! 11 refl $ forget ! 13 refl $
         move ! (13 ∷ 14 ∷ []) $ free1 ! $ move ! (11 ∷ 12 ∷ []) $ free1 ! $ move ! (9 ∷ 10 ∷ []) $ free1 ! $ move ! (7 ∷ 8 ∷ []) $ free1 ! $ move ! (5 ∷ 6 ∷ []) $ free1 ! $ move ! (3 ∷ 4 ∷ []) $ free1 ! $ free0 ! $
         suffices ! _ (ends-at 𝓤 H A f.ended stayed (f.clauses 𝓤 H A at-mem run) W bound vunit tt (r, (tt, (tt, tt))) (tt, (tt, (tt, tt)))) $ says ! e $
-        nothing ! $ move ! (3 ∷ 0 ∷ []) $ join ! $ frame ! $ feqI ! (List Val) (vptr b o ∷ []) (vptr b o ∷ []) refl $ fjoin3 ! $ bytes ! n v n-fits v-fits $ move ! (1 ∷ 0 ∷ []) $ fjoin ! $
-        feqI ! (List Val) (vunit ∷ []) (vunit ∷ []) refl $ move ! (1 ∷ 0 ∷ []) $ done !))))))))))))
+        nothing ! $ move ! (3 ∷ 0 ∷ []) $ join ! $ frame ! $ feqI ! (List Val) (vptr b o ∷ []) (vptr b o ∷ []) refl $ fjoin3 ! $ bytes ! n v n-fits v-fits $ move ! (1 ∷ 0 ∷ []) $ fjoin ! $ feqI ! (List Val) (vunit ∷ []) (vunit ∷ []) refl $ move ! (1 ∷ 0 ∷ []) $ done !))))))))))))
 
 store-meets : {M : Type 1} (𝓤 : URA M) (H : Heap 𝓤) (A : Atoms 𝓤) → Given 𝓤 H A → (at-mem : Memory → SProp 𝓤) (run : Routine → Fun 𝓤) (𝓣 : Tables 𝓤 H) → Triple 𝓤 (𝓣 .C #control·Latch·with) (With 𝓤 H A at-mem run)
     → Meets 𝓤 H A f.signature (WpFn 𝓤 H (𝓣 .C) (𝓣 .Λ) code.function) (f.spec 𝓤 H A at-mem run)

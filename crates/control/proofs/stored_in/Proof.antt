@@ -82,16 +82,15 @@ module _ {M : Type 1} (𝓤 : URA M) (H : Heap 𝓤) (A : Atoms 𝓤) (W : Given
   module _ (C : Calls 𝓤 H) (Λ : Loops 𝓤 H) (fm : FmC 𝓤 H (W .laws) C) (known : Triple 𝓤 (C #control·store) (Store 𝓤 H A at-mem run)) where
     walk : ent 𝓤 (onEntry 𝓤 H A f.signature tt tt (h, (n, (v, tt))) (mach ∷ [], at-bytes n v)) (WpFn 𝓤 H C Λ code.function (mach ∷ vint w8 n ∷ vint w8 v ∷ []) (walkOf 𝓤 H A f.ended stayed (f.clauses 𝓤 H A at-mem run) .post bound))
     walk =
-        qed W (‵ ftrue ∷ ‵ (owns (T.the-row ∷ u8 ∷ u8 ∷ []) (h, (n, (v, tt))) (mach ∷ [], at-bytes n v)) ∷ []) ∵ move ! (1 ∷ []) $ fsplit ! $ keep ! (0 ∷ []) $
-        typed ! h mach (λ wt. enter ! C Λ code.function (mach ∷ vint w8 n ∷ vint w8 v ∷ []) _ $
-        alloc1 ! (λ l₀. alloc1 ! (λ l₁. alloc1 ! (λ l₂. alloc1 ! (λ l₃. alloc1 ! (λ l₄. alloc1 ! (λ l₅. alloc1 ! (λ l₆. alloc0 ! $ params1 ! $ pass1 ! (init ! 10 refl wt) $
-        pass1 ! (init ! 8 refl (tt, record { fits = n-fits })) $ pass1 ! (init ! 6 refl (tt, record { fits = v-fits })) $ pass0 ! $
+        qed W (‵ ftrue ∷ ‵ (owns (T.the-row ∷ u8 ∷ u8 ∷ []) (h, (n, (v, tt))) (mach ∷ [], at-bytes n v)) ∷ []) ∵ move ! (1 ∷ []) $ fsplit ! $ keep ! (0 ∷ []) $ typed ! h mach (λ wt. enter ! C Λ code.function (mach ∷ vint w8 n ∷ vint w8 v ∷ []) _ $
+        alloc1 ! (λ l₀. alloc1 ! (λ l₁. alloc1 ! (λ l₂. alloc1 ! (λ l₃. alloc1 ! (λ l₄. alloc1 ! (λ l₅. alloc1 ! (λ l₆. alloc0 ! $ params1 ! $ pass1 ! (init ! 10 refl wt) $ pass1 ! (init ! 8 refl (tt, record { fits = n-fits })) $ pass1 ! (init ! 6 refl (tt, record { fits = v-fits })) $ pass0 ! $
         -- [_6; …; _5; …; _4; …; _3; …; _2; …; _1; …; room for _0; …; what the latch owns]
         assigns ! (of-opd ! (load ! (from ! (stop !)) (look ! 10 refl))) (from ! (stop !)) (init ! 4 refl wt) $
         assigns ! (addr ! (from ! (stop !))) (from ! (stop !)) (init ! 0 refl (tt, tt)) $
         -- the local is lent for a new lifetime
         move ! (4 ∷ 14 ∷ []) $ use2 W (‵ (partAt T.the-row fullShare h l₄ 0)) (part-in 𝓤 H A W T.the-row refl fullShare h l₄ 0 mach) $
-        lft-new ! tt (λ α. move ! (1 ∷ []) $ use1 W (later (some (λ (δ : GName). ‵ (MutRef (named 0) (α ∷ []) T.the-row .own (lent-at l₄ δ) (vptr l₄ 0 ∷ [])) ⊛ ‵ (flent (α ∷ []) (Body (mem T.the-row) l₄ 0 δ))))) (lends-ref 𝓤 H A W T.the-row (named 0) (α ∷ []) h l₄ 0) $ await ! tt $ pick ! (λ δ. split ! $
+        lft-new ! tt (λ α. move ! (1 ∷ []) $ use1 W (later (some (λ (δ : GName). ‵ (MutRef (named 0) (α ∷ []) T.the-row .own (lent-at l₄ δ) (vptr l₄ 0 ∷ [])) ⊛ ‵ (flent (α ∷ []) (Body (mem T.the-row) l₄ 0 δ))))) (lends-ref 𝓤 H A W T.the-row (named 0) (α ∷ []) h l₄ 0) $
+        await ! tt $ pick ! (λ δ. split ! $
         -- [the reference; the lender's part; the token; _6; …; _5; …; _4's end; _3; …]
         bytes ! n v n-fits v-fits $ move ! (1 ∷ 0 ∷ []) $ fjoin ! $ nothing ! $ move ! (3 ∷ 0 ∷ []) $ join ! $ join ! $ nothing ! $ move ! (1 ∷ 0 ∷ []) $ join ! $ use1 W (raw (Store 𝓤 H A at-mem run .pre (to-store α l₄ δ))) (id⊢ 𝓤 _) $
         calls-at ! fm (Store 𝓤 H A at-mem run) known (to-store α l₄ δ) (and-then ! (load ! (from ! (stop !)) (look ! 2 refl)) (and-then ! (load ! (from ! (stop !)) (look ! 9 refl)) (and-then ! (load ! (from ! (stop !)) (look ! 7 refl)) (no-more !)))) (λ w.
@@ -106,8 +105,7 @@ module _ {M : Type 1} (𝓤 : URA M) (H : Heap 𝓤) (A : Atoms 𝓤) (W : Given
         -- [what the result owns; _4; _6; …; _5; …; _4's end; _3; …]
         assigns ! (of-opd ! (load ! (from ! (stop !)) (look ! 1 refl))) (from ! (stop !)) (init ! 13 refl wt′) $
         returns ! (look ! 13 refl) $ forget ! 1 refl $ forget ! 2 refl $ forget ! 4 refl $ forget ! 7 refl $ forget ! 9 refl $ forget ! 11 refl $ forget ! 13 refl $
-        move ! (13 ∷ 14 ∷ []) $ free1 ! $ move ! (11 ∷ 12 ∷ []) $ free1 ! $ move ! (9 ∷ 10 ∷ []) $ free1 ! $ move ! (7 ∷ 8 ∷ []) $ free1 ! $ move ! (1 ∷ 6 ∷ []) $ free1 ! $ move ! (3 ∷ 4 ∷ []) $
-        free1 ! $ move ! (1 ∷ 2 ∷ []) $ free1 ! $ free0 ! $
+        move ! (13 ∷ 14 ∷ []) $ free1 ! $ move ! (11 ∷ 12 ∷ []) $ free1 ! $ move ! (9 ∷ 10 ∷ []) $ free1 ! $ move ! (7 ∷ 8 ∷ []) $ free1 ! $ move ! (1 ∷ 6 ∷ []) $ free1 ! $ move ! (3 ∷ 4 ∷ []) $ free1 ! $ move ! (1 ∷ 2 ∷ []) $ free1 ! $ free0 ! $
         suffices ! _ (ends-at 𝓤 H A f.ended stayed (f.clauses 𝓤 H A at-mem run) W bound u next (tt, (tt, (tt, tt))) (tt, (tt, (tt, tt)))) $ says ! refl $
         bytes ! n v n-fits v-fits $ owned ! T.the-row (Is T.the-row) (LL.makes T.the-type T′.the-plain 𝓤 H A) h _ h-is $ fjoin ! $ nothing ! $ done !)))))))))))))))))
 
