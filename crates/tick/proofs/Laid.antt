@@ -4,7 +4,7 @@ use mathlib.Core.Path.{_≡_, refl, sym, ap, _∙_}
 use mathlib.Core.List.{List, [], _∷_, _++_, append-assoc}
 use native.Mathlib.Numerals.{add-one}
 use native.Mathlib.Omega.{arith}
-use lib.ListN.{length, take, drop, set, length-append, length-take, length-drop, length-set, take-append-drop}
+use lib.ListN.{length, take, drop, set, length-append, length-drop, length-set, take-append-drop}
 use lib.Seq.{sets, set-append-left, drop-drop, length-take-le}
 use Rattle.rules.specs.Areas.{byte, portsBelow, answersArea}
 use Rattle.rules.proofs.AreaLaws.{length-portsBelow, filled, filled-next, filled-all}
