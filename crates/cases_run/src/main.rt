@@ -1,7 +1,8 @@
 // Runs document 01's cases through the router's entries, compares all outgoing and answer bytes, and prints of each case what is expected and what was found.
-ghost use Prim.Native.Nat.{_≤_};
+ghost use Prim.Native.Nat.{_<_};
 ghost use mathlib.Core.Path.{_≡_};
-ghost use mathlib.Core.Bool.{true};
+ghost use lib.ListN.{length};
+ghost use Rattle.rules.specs.Areas.{outgoingLength};
 use layout::Router;
 use libc::STDOUT_FILENO;
 
@@ -32,22 +33,6 @@ fn print_verdict(same: bool) {
     }
 }
 
-fn is_same(a: &[u8], b: &[u8]) -> bool
-    ensures { λ r. ⌜ (r ≡ true → now (a .entry) ≡ now (b .entry)) ⌝ }
-{
-    if a.len() != b.len() {
-        return false;
-    }
-    let mut i = 0;
-    while i < a.len() {
-        if a[i] != b[i] {
-            return false;
-        }
-        i += 1;
-    }
-    true
-}
-
 // Outgoing and answers as they should be and as they are.
 fn report(name: &[u8], expected: &[u8], answers: &[u8], outgoing: &[u8], answered: &[u8]) {
     print(name);
@@ -55,11 +40,7 @@ fn report(name: &[u8], expected: &[u8], answers: &[u8], outgoing: &[u8], answere
     print_seen(expected, answers);
     print(b", found");
     print_seen(outgoing, answered);
-    if is_same(expected, outgoing) {
-        print_verdict(is_same(answers, answered));
-    } else {
-        print_verdict(false);
-    }
+    print_verdict(check::same(expected, outgoing) & check::same(answers, answered));
 }
 
 fn report_number(name: &[u8], expected: u64, found: u64) {
@@ -71,37 +52,15 @@ fn report_number(name: &[u8], expected: u64, found: u64) {
     print_verdict(expected == found);
 }
 
-// Data bytes turn over at 256.
-fn plus(data: u8, n: u8) -> u8 {
-    std::num::wrapping_add_u8(data, n)
-}
-
-// A packet of a port: identifier, time and 18 bytes of data, which count up from `data`.
-fn put_packet(area: &mut [u8], port: usize, identifier: u8, time: u8, data: u8) {
-    if port < 5 {
-        layout::put_byte(area, 20 * port, identifier);
-        layout::put_byte(area, 20 * port + 1, time);
-        put_data(area, 20 * port + 2, data);
-    }
-}
-
-fn put_data(area: &mut [u8], at: usize, data: u8)
-    requires { ⌜ at ≤ 82 ⌝ }
+// A packet of a port: identifier, time and 18 bytes of data, all different. The first of these tells packets apart.
+fn put_packet(area: &mut [u8], port: usize, identifier: u8, time: u8, first: u8)
+    requires { ⌜ (length (now area) ≡ outgoingLength) × (port < 5) ⌝ }
 {
-    let mut i: u8 = 0;
-    while i < 18 {
-        layout::put_byte(area, at + i as usize, plus(data, i));
-        i += 1;
-    }
-}
-
-// What is expected of port 0: its arrival's answer and its own, and, if it sends, identifier 33, a deadline and the data 1, 2, ..
-fn expect(expected: &mut [u8], answers: &mut [u8], arrival: u8, port: u8, deadline: u8) {
-    layout::put_byte(answers, 0, port);
-    layout::put_byte(answers, 5, arrival);
-    if port != 0 {
-        put_packet(expected, 0, 33, deadline, 1);
-    }
+    let at = Router::PACKET * port;
+    layout::put_byte(area, at, identifier);
+    layout::put_byte(area, at + 1, time);
+    layout::put_byte(area, at + 2, first);
+    layout::copy_in(b"bcdefghijklmnopqr", area, at + 3);
 }
 
 // Connection `incoming` gets an outgoing identifier, a delay and a mask.
@@ -144,24 +103,50 @@ fn tick(
     report(name, expected, answers, &outgoing, &answered);
 }
 
-// One packet at t = 240: its delay, its port's horizon, its time; the arrival's answer and the port's, and the deadline that it leaves with.
-fn one(name: &[u8], delay: u8, horizon: u8, time: u8, arrival: u8, port: u8, deadline: u8) {
-    let mut state = [0u8; Router::STATE];
-    let mut memory = [0u8; Router::MEMORY];
+// What port 0 sends, if it does: packet 1.
+fn put_sent(expected: &mut [u8], port: u8, deadline: u8)
+    requires { ⌜ length (now expected) ≡ outgoingLength ⌝ }
+{
+    if port != 0 {
+        put_packet(expected, 0, 33, deadline, 1);
+    }
+}
+
+// A tick with a packet on port 0: its time and the first byte of its data; the arrival's answer and the port's, and the deadline with which port 0 sends packet 1.
+fn tick_one(
+    state: &mut [u8],
+    memory: &mut [u8],
+    name: &[u8],
+    time: u8,
+    first: u8,
+    arrival: u8,
+    port: u8,
+    deadline: u8,
+) {
     let mut arrivals = [0u8; Router::ARRIVALS];
     let mut expected = [0u8; Router::OUTGOING];
     let mut answers = [0u8; Router::ANSWERS];
+    put_packet(&mut arrivals, 0, 5, time, first);
+    answers[0] = port;
+    answers[5] = arrival;
+    put_sent(&mut expected, port, deadline);
+    tick(state, memory, &arrivals, 1, name, &expected, &answers);
+}
+
+// One packet at t = 240: its delay, its port's horizon, its time; then as above.
+fn one(name: &[u8], delay: u8, horizon: u8, time: u8, arrival: u8, port: u8, deadline: u8) {
+    let mut state = [0u8; Router::STATE];
+    let mut memory = [0u8; Router::MEMORY];
     prepare(&mut state, &mut memory, 240, delay, horizon);
-    put_packet(&mut arrivals, 0, 5, time, 1);
-    expect(&mut expected, &mut answers, arrival, port, deadline);
-    tick(
+    tick_one(
         &mut state,
         &mut memory,
-        &arrivals,
-        1,
         name,
-        &expected,
-        &answers,
+        time,
+        1,
+        arrival,
+        port,
+        deadline,
     );
 }
 
@@ -179,22 +164,15 @@ fn one_packet() {
     one(b"time 240, d = 0", 0, 0, 240, 1, 1, 240);
 }
 
-// The second of two is stored too, and withdrawn.
-fn expect_two(expected: &mut [u8], answers: &mut [u8]) {
-    expect(expected, answers, 1, 1, 240);
-    layout::put_byte(answers, 6, 1);
-    layout::put_byte(answers, 11, 1);
-}
-
-// Two packets of time 240 and d = 0, on ports 0 and 1.
+// Two packets of time 240 and d = 0, on ports 0 and 1: the second is stored too, and withdrawn.
 fn two_packets(state: &mut [u8], memory: &mut [u8]) {
     let mut arrivals = [0u8; Router::ARRIVALS];
     let mut expected = [0u8; Router::OUTGOING];
-    let mut answers = [0u8; Router::ANSWERS];
+    let answers = [1, 0, 0, 0, 0, 1, 1, 0, 0, 0, 0, 1, 0, 0, 0, 0, 0, 0, 0, 0];
     prepare(state, memory, 240, 0, 0);
     put_packet(&mut arrivals, 0, 5, 240, 1);
-    put_packet(&mut arrivals, 1, 5, 240, 101);
-    expect_two(&mut expected, &mut answers);
+    put_packet(&mut arrivals, 1, 5, 240, 2);
+    put_packet(&mut expected, 0, 33, 240, 1);
     tick(
         state,
         memory,
@@ -206,16 +184,21 @@ fn two_packets(state: &mut [u8], memory: &mut [u8]) {
     );
 }
 
-// A tick with five arrivals of one time, the first with this data and each with one more.
-fn tick_five(state: &mut [u8], memory: &mut [u8], ids: [u8; 5], time: u8, data: u8) {
+// The first byte of data of the nth packet, which turns over at 256.
+fn nth(first: u8, n: u8) -> u8 {
+    std::num::wrapping_add_u8(first, n)
+}
+
+// A tick with five arrivals of one time.
+fn tick_five(state: &mut [u8], memory: &mut [u8], ids: [u8; Router::PORTS], time: u8, first: u8) {
     let mut arrivals = [0u8; Router::ARRIVALS];
     let mut outgoing = [0u8; Router::OUTGOING];
     let mut answers = [0u8; Router::ANSWERS];
-    put_packet(&mut arrivals, 0, ids[0], time, data);
-    put_packet(&mut arrivals, 1, ids[1], time, plus(data, 1));
-    put_packet(&mut arrivals, 2, ids[2], time, plus(data, 2));
-    put_packet(&mut arrivals, 3, ids[3], time, plus(data, 3));
-    put_packet(&mut arrivals, 4, ids[4], time, plus(data, 4));
+    put_packet(&mut arrivals, 0, ids[0], time, first);
+    put_packet(&mut arrivals, 1, ids[1], time, nth(first, 1));
+    put_packet(&mut arrivals, 2, ids[2], time, nth(first, 2));
+    put_packet(&mut arrivals, 3, ids[3], time, nth(first, 3));
+    put_packet(&mut arrivals, 4, ids[4], time, nth(first, 4));
     router::router_tick(state, memory, &arrivals, &mut outgoing, &mut answers, 31, 0);
 }
 
@@ -234,15 +217,20 @@ fn fill_ten(state: &mut [u8], memory: &mut [u8]) {
     tick_five(state, memory, [3, 3, 3, 3, 2], 240, 6);
 }
 
-// A tick without arrivals, in which port 0 sends a packet of this identifier and data, and port 4 one of connection 3.
-fn tick_ten(state: &mut [u8], memory: &mut [u8], name: &[u8], identifier: u8, data: u8, third: u8) {
+// A tick without arrivals, in which port 0 sends a packet of this identifier, and port 4 one of connection 3.
+fn tick_ten(
+    state: &mut [u8],
+    memory: &mut [u8],
+    name: &[u8],
+    identifier: u8,
+    first: u8,
+    third: u8,
+) {
     let arrivals = [0u8; Router::ARRIVALS];
     let mut expected = [0u8; Router::OUTGOING];
-    let mut answers = [0u8; Router::ANSWERS];
-    put_packet(&mut expected, 0, identifier, 24, data);
+    let answers = [1, 0, 0, 0, 1, 0, 0, 0, 0, 0, 0, 0, 0, 0, 0, 0, 0, 0, 0, 0];
+    put_packet(&mut expected, 0, identifier, 24, first);
     put_packet(&mut expected, 4, 3, 24, third);
-    layout::put_byte(&mut answers, 0, 1);
-    layout::put_byte(&mut answers, 4, 1);
     tick(state, memory, &arrivals, 0, name, &expected, &answers);
 }
 
@@ -271,24 +259,17 @@ fn idle_count(state: &[u8]) -> u64 {
     (layout::byte(state, 10) as u64) * 256 + layout::byte(state, 11) as u64
 }
 
-// The same packet on all five ports.
-fn put_five(expected: &mut [u8], answers: &mut [u8]) {
-    let mut port = 0;
-    while port < 5 {
-        put_packet(expected, port, 33, 24, 1);
-        layout::put_byte(answers, port, 1);
-        port += 1;
-    }
-}
-
 // A packet for all five ports arrives.
 fn tick_all(state: &mut [u8], memory: &mut [u8]) {
     let mut arrivals = [0u8; Router::ARRIVALS];
     let mut expected = [0u8; Router::OUTGOING];
-    let mut answers = [0u8; Router::ANSWERS];
+    let answers = [1, 1, 1, 1, 1, 1, 0, 0, 0, 0, 0, 0, 0, 0, 0, 0, 0, 0, 0, 0];
     put_packet(&mut arrivals, 0, 5, 240, 1);
-    put_five(&mut expected, &mut answers);
-    layout::put_byte(&mut answers, 5, 1);
+    put_packet(&mut expected, 0, 33, 24, 1);
+    put_packet(&mut expected, 1, 33, 24, 1);
+    put_packet(&mut expected, 2, 33, 24, 1);
+    put_packet(&mut expected, 3, 33, 24, 1);
+    put_packet(&mut expected, 4, 33, 24, 1);
     tick(
         state,
         memory,
@@ -312,31 +293,26 @@ fn five_ports(state: &mut [u8], memory: &mut [u8]) {
     );
 }
 
-// Stores 255 packets for time 240, five a tick.
+// 255 packets for time 240, five a tick.
 fn fill(state: &mut [u8], memory: &mut [u8]) {
     let mut i: u8 = 0;
     while i < 51 {
-        tick_five(state, memory, [5; 5], 240, 5 * i + 1);
+        tick_five(state, memory, [5; Router::PORTS], 240, 5 * i + 1);
         i += 1;
     }
 }
 
-// A tick with an arrival on port 0, and its answer; what port 0 sends, if it does, has the data of the first packet.
-fn tick_one(state: &mut [u8], memory: &mut [u8], name: &[u8], arrival: u8, port: u8) {
-    let mut arrivals = [0u8; Router::ARRIVALS];
-    let mut expected = [0u8; Router::OUTGOING];
-    let mut answers = [0u8; Router::ANSWERS];
-    put_packet(&mut arrivals, 0, 5, 240, 0);
-    expect(&mut expected, &mut answers, arrival, port, 24);
-    tick(state, memory, &arrivals, 1, name, &expected, &answers);
+// A tick with one more.
+fn tick_more(state: &mut [u8], memory: &mut [u8], name: &[u8], arrival: u8, port: u8) {
+    tick_one(state, memory, name, 240, 0, arrival, port, 24);
 }
 
 fn all_stored(state: &mut [u8], memory: &mut [u8]) {
     prepare(state, memory, 188, 40, 0);
     fill(state, memory);
-    tick_one(state, memory, b"the 256th packet", 1, 0);
+    tick_more(state, memory, b"the 256th packet", 1, 0);
     report_number(b"256 stored, idle addresses", 0, idle_count(state));
-    tick_one(state, memory, b"256 stored, the next arrival", 8, 1);
+    tick_more(state, memory, b"256 stored, the next arrival", 8, 1);
     report_number(
         b"256 stored, idle addresses after that tick",
         1,

@@ -11,9 +11,9 @@ use Rattle.control.specs.declared.Latch.{Latch}
 abbrev pub latchOf : List ℕ → Latch
 latchOf s = record { outgoing = board8 .get s (latch 0); delay = board8 .get s (latch 1); routes = board8 .get s (latch 2); horizons = board8 .get s (latch 3) }
 
--- A latch with the byte v stored in register r; the commits, 3 and 5, leave it.
-abbrev pub stored : Latch → ℕ → ℕ → Latch
-stored l r v =
+-- A latch with the byte v in register r; the commits, 3 and 5, leave it.
+abbrev pub latchWith : Latch → ℕ → ℕ → Latch
+latchWith l r v =
     record {
       outgoing = cond (eqb r 0) v (l .outgoing);
       delay = cond (eqb r 1) v (l .delay);
@@ -21,10 +21,6 @@ stored l r v =
       horizons = cond (eqb r 4) v (l .horizons);
     }
 
--- A state with the latch's byte of register r, which is 0, 1, 2 or 4.
-abbrev pub kept : List ℕ → Latch → ℕ → List ℕ
-kept s l r =
-    cond (eqb r 0) (board8 .put s (latch 0) (l .outgoing))
-    (cond (eqb r 1) (board8 .put s (latch 1) (l .delay))
-    (cond (eqb r 2) (board8 .put s (latch 2) (l .routes))
-    (board8 .put s (latch 3) (l .horizons))))
+-- A latch's byte of register r, which is 0, 1, 2 or 4.
+abbrev pub latchByte : Latch → ℕ → ℕ
+latchByte l r = cond (eqb r 0) (l .outgoing) (cond (eqb r 1) (l .delay) (cond (eqb r 2) (l .routes) (l .horizons)))

@@ -1,13 +1,14 @@
 // Control writes: the control latch, the two commits, and which value fits a register.
 ghost use mathlib.Core.Path.{_≡_};
 ghost use Prim.Native.Nat.{_≤_};
-ghost use Rattle.rules.specs.Areas.{fits};
+ghost use Rattle.rules.specs.Areas.{fits, latchPlace};
 ghost use Rattle.rules.specs.Board.{latch};
 ghost use Rattle.rules.specs.Board8.{board8};
 ghost use Rattle.rules.specs.Control.{commitEntry, commitHorizon, written};
-ghost use Rattle.control.specs.Latches.{latchOf, stored, kept};
+ghost use Rattle.control.specs.Latches.{latchOf, latchWith, latchByte};
 use layout::ConnectionId;
 use layout::Field;
+use layout::Router;
 
 // The control latch: the bytes last written to registers 0, 1, 2 and 4, which wait for a commit.
 pub struct Latch {
@@ -36,7 +37,7 @@ impl Latch {
 
     // The latch with a register stored; the commits, 3 and 5, leave it.
     pub fn with(self, register: u8, value: u8) -> Latch
-        ensures { λ r. ⌜ r ≡ stored self register value ⌝ }
+        ensures { λ r. ⌜ r ≡ latchWith self register value ⌝ }
     {
         let mut next = self;
         match register {
@@ -48,33 +49,40 @@ impl Latch {
         }
         next
     }
+
+    // The byte of a stored register: 0, 1, 2 or 4.
+    fn byte(self, register: u8) -> u8
+        ensures { λ r. ⌜ r ≡ latchByte self register ⌝ }
+    {
+        match register {
+            0 => self.outgoing,
+            1 => self.delay,
+            2 => self.routes,
+            _ => self.horizons,
+        }
+    }
 }
 
 // Stores a register through a reference.
 pub fn store(latch: &mut Latch, register: u8, value: u8)
-    ensures { λ _. ⌜ now (latch .exit) ≡ stored (now (latch .entry)) register value ⌝ }
+    ensures { λ _. ⌜ now (latch .exit) ≡ latchWith (now (latch .entry)) register value ⌝ }
 {
     *latch = (*latch).with(register, value);
 }
 
 // The latch with a register stored by `store`, for callers that have it by value.
 fn stored_in(mut latch: Latch, register: u8, value: u8) -> Latch
-    ensures { λ r. ⌜ r ≡ stored latch register value ⌝ }
+    ensures { λ r. ⌜ r ≡ latchWith latch register value ⌝ }
 {
     store(&mut latch, register, value);
     latch
 }
 
-// Keeps a register's byte of the latch in the state.
-fn keep(state: &mut [u8], latch: Latch, register: u8)
-    ensures { λ _. ⌜ now (state .exit) ≡ kept (now (state .entry)) latch register ⌝ }
+// Where a stored register waits in the latch.
+fn latch_place(register: u8) -> u8
+    ensures { λ r. ⌜ r ≡ latchPlace register ⌝ }
 {
-    match register {
-        0 => layout::put(state, Field::Latch(0), latch.outgoing),
-        1 => layout::put(state, Field::Latch(1), latch.delay),
-        2 => layout::put(state, Field::Latch(2), latch.routes),
-        _ => layout::put(state, Field::Latch(3), latch.horizons),
-    }
+    if register == 4 { 3 } else { register }
 }
 
 // Register 3: the latch becomes the entry of a connection.
@@ -87,6 +95,8 @@ fn commit_entry(state: &mut [u8], connection: ConnectionId)
     layout::put(state, Field::Routes(connection), latch.routes);
 }
 
+const PORTS: u8 = Router::PORTS as u8;
+
 // Register 5: a horizon for each port in the latch's mask.
 fn commit_horizon(state: &mut [u8], horizon: u8)
     ensures { λ _. ⌜ now (state .exit) ≡ commitHorizon board8 5 (board8 .get (now (state .entry)) (latch 3)) horizon (now (state .entry)) ⌝ }
@@ -94,7 +104,7 @@ fn commit_horizon(state: &mut [u8], horizon: u8)
     let latch = Latch::read(state);
     let mask = latch.horizons;
     let mut port: u8 = 0;
-    while port < 5 {
+    while port < PORTS {
         if layout::has_port(mask, port) {
             layout::put(state, Field::Horizon(port), horizon);
         }
@@ -111,8 +121,9 @@ pub fn write_register(state: &mut [u8], register: u8, value: u8)
         3 => commit_entry(state, ConnectionId(value)),
         5 => commit_horizon(state, value),
         _ => {
-            let latch = Latch::read(state);
-            keep(state, stored_in(latch, register, value), register)
+            let latch = stored_in(Latch::read(state), register, value);
+            let place = latch_place(register);
+            layout::put(state, Field::Latch(place), latch.byte(register))
         }
     }
 }
@@ -122,8 +133,8 @@ pub fn value_fits(register: u8, value: u8) -> bool
     ensures { λ r. ⌜ r ≡ fits 1 register value ⌝ }
 {
     match register {
-        1 | 5 => value < 128,
-        2 | 4 => value <= 31,
+        1 | 5 => value < Router::HALF,
+        2 | 4 => value <= Router::ALL_PORTS,
         _ => true,
     }
 }

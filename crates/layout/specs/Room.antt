@@ -4,6 +4,7 @@ use mathlib.Core.Path.{_≡_}
 use mathlib.Core.Bool.{Bool}
 use mathlib.Core.List.{List}
 use lib.ListN.{length}
+use Rattle.rules.specs.Areas.{memoryLength, arrivalsLength, outgoingLength, answersLength}
 use Rattle.rules.specs.Board8.{board8}
 use Rattle.rules.specs.Questions as Questions
 
@@ -17,4 +18,4 @@ Room s = Questions.used board8 s ≤ 256
 
 -- Whole areas, and a state with room.
 abbrev pub Lent : List ℕ → List ℕ → List ℕ → List ℕ → List ℕ → Type 0
-Lent s m arrivals out ans = (length s ≡ 1804) × (length m ≡ 5120) × (length arrivals ≡ 100) × (length out ≡ 100) × (length ans ≡ 20) × Room s
+Lent s m arrivals out ans = (length s ≡ board8 .stateLength) × (length m ≡ memoryLength) × (length arrivals ≡ arrivalsLength) × (length out ≡ outgoingLength) × (length ans ≡ answersLength) × Room s

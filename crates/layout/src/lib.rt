@@ -36,6 +36,9 @@ impl Router {
 
     pub const PACKET: usize = 20;
 
+    // A packet's data, after its identifier and its time.
+    pub const DATA: usize = 18;
+
     pub const STATE: usize = 1804;
 
     pub const MEMORY: usize = 5120;
@@ -45,6 +48,13 @@ impl Router {
     pub const OUTGOING: usize = 100;
 
     pub const ANSWERS: usize = 20;
+
+    // The largest mask, the last register, and half the clock's turn, below which delays and horizons are.
+    pub const ALL_PORTS: u8 = 31;
+
+    pub const LAST_REGISTER: u8 = 5;
+
+    pub const HALF: u8 = 128;
 
     pub const EMPTY: Slot = Slot([0u8; 3]);
 

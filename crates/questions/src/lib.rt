@@ -1,6 +1,8 @@
 // The questions of a control write and of a tick, in their order.
 ghost use mathlib.Core.Path.{_≡_};
+ghost use mathlib.Core.Bool.{_&&_};
 ghost use Rattle.rules.specs.Areas.{areasFull};
+ghost use Rattle.rules.specs.Asked.{asked, controlQuestions, tickQuestions};
 ghost use Rattle.rules.specs.Board8.{board8};
 ghost use Rattle.rules.specs.Questions.{full, controlRefusal, tickRefusal};
 ghost use Rattle.layout.specs.Room.{Lent};
@@ -8,30 +10,57 @@ ghost use Rattle.layout.specs.Numbers.{numberOf};
 use layout::Refusal;
 use layout::Router;
 
-// Question 1 of state and memory.
+// Both answers are yes.
+fn both(a: bool, b: bool) -> bool
+    ensures { λ r. ⌜ r ≡ (a && b) ⌝ }
+{
+    a & b
+}
+
+// 1: do state and memory have their lengths?
 fn store_full(state: &[u8], memory: &[u8]) -> bool
     ensures { λ r. ⌜ r ≡ full board8 (record { state = now (state .entry); memory = now (memory .entry) }) ⌝ }
 {
-    if state.len() != Router::STATE {
-        return false;
-    }
-    memory.len() == Router::MEMORY
+    both(state.len() == Router::STATE, memory.len() == Router::MEMORY)
 }
 
-// Question 1 of a tick's other areas.
-fn areas_full(arrivals: &[u8], outgoing: &[u8], answers: &[u8]) -> bool
-    ensures { λ r. ⌜ r ≡ areasFull (now (arrivals .entry)) (now (outgoing .entry)) (now (answers .entry)) ⌝ }
+// 1: do all areas of a tick have their lengths?
+fn areas_full(state: &[u8], memory: &[u8], arrivals: &[u8], outgoing: &[u8], answers: &[u8]) -> bool
+    ensures { λ r. ⌜ r ≡ (full board8 (record { state = now (state .entry); memory = now (memory .entry) }) && areasFull (now (arrivals .entry)) (now (outgoing .entry)) (now (answers .entry))) ⌝ }
 {
-    if arrivals.len() != Router::ARRIVALS {
-        return false;
-    }
-    if Router::OUTGOING != outgoing.len() {
-        return false;
-    }
-    answers.len() == Router::ANSWERS
+    let packets = both(
+        arrivals.len() == Router::ARRIVALS,
+        outgoing.len() == Router::OUTGOING,
+    );
+    let others = both(packets, answers.len() == Router::ANSWERS);
+    both(store_full(state, memory), others)
 }
 
-// Of a control write.
+// What a control write is asked besides its store: is the register 0-5 (4), does the value fit it (5)?
+fn control_questions(register: u8, value: u8) -> Refusal
+    ensures { λ r. ⌜ numberOf r ≡ asked (controlQuestions 1 register value) ⌝ }
+{
+    let known = register <= Router::LAST_REGISTER;
+    if !known {
+        return Refusal::Register;
+    }
+    if !control::value_fits(register, value) {
+        return Refusal::Value;
+    }
+    Refusal::Accepted
+}
+
+// What a tick is asked besides its areas: are both masks at most 31 (3)?
+fn tick_questions(arriving: u8, waiting: u8) -> Refusal
+    ensures { λ r. ⌜ numberOf r ≡ asked (tickQuestions arriving waiting) ⌝ }
+{
+    if !both(arriving <= Router::ALL_PORTS, waiting <= Router::ALL_PORTS) {
+        return Refusal::Masks;
+    }
+    Refusal::Accepted
+}
+
+// The questions of a control write.
 pub fn of_control(state: &[u8], memory: &[u8], register: u8, value: u8) -> Refusal
     ensures { λ r. ⌜ numberOf r ≡ controlRefusal board8 (record { state = now (state .entry); memory = now (memory .entry) }) register value ⌝ }
 {
@@ -41,16 +70,10 @@ pub fn of_control(state: &[u8], memory: &[u8], register: u8, value: u8) -> Refus
     if !sound::is_sound(state, memory) {
         return Refusal::Unsound;
     }
-    if 5 < register {
-        return Refusal::Register;
-    }
-    if !control::value_fits(register, value) {
-        return Refusal::Value;
-    }
-    Refusal::Accepted
+    control_questions(register, value)
 }
 
-// Of a tick; what passes them is whole and has room.
+// The questions of a tick; what passes them is whole and has room.
 pub fn of_tick(
     state: &[u8],
     memory: &[u8],
@@ -63,20 +86,11 @@ pub fn of_tick(
     ensures number { λ r. ⌜ numberOf r ≡ tickRefusal board8 (record { state = now (state .entry); memory = now (memory .entry) }) arriving waiting (now (arrivals .entry)) (now (outgoing .entry)) (now (answers .entry)) ⌝ }
     ensures lengths { λ r. ⌜ (numberOf r ≡ 0 → Lent (now (state .entry)) (now (memory .entry)) (now (arrivals .entry)) (now (outgoing .entry)) (now (answers .entry))) ⌝ }
 {
-    if !store_full(state, memory) {
-        return Refusal::Lengths;
-    }
-    if !areas_full(arrivals, outgoing, answers) {
+    if !areas_full(state, memory, arrivals, outgoing, answers) {
         return Refusal::Lengths;
     }
     if !sound::is_sound(state, memory) {
         return Refusal::Unsound;
     }
-    if 31 < arriving {
-        return Refusal::Masks;
-    }
-    if 31 < waiting {
-        return Refusal::Masks;
-    }
-    Refusal::Accepted
+    tick_questions(arriving, waiting)
 }

@@ -2,10 +2,16 @@
 ghost use mathlib.Core.Path.{_≡_};
 ghost use Prim.Native.Nat.{_/_, _%_};
 ghost use lib.ListN.{length};
+ghost use Rattle.rules.specs.Areas.{byte, answersLength, answersArea};
 ghost use Rattle.rules.specs.Board8.{board8};
 ghost use Rattle.rules.specs.Tick.{Outcome, ticked};
 ghost use Rattle.layout.specs.Room.{Lent};
-ghost use Rattle.tick.specs.Answers.{laid};
+use layout::Router;
+
+// Where the answers of the arrivals start, and the counts of packets withdrawn.
+const ARRIVALS: usize = Router::PORTS;
+
+const WITHDRAWN: usize = 2 * Router::PORTS;
 
 // The two bytes of a count.
 fn high(n: u16) -> u8
@@ -20,26 +26,26 @@ fn low(n: u16) -> u8
     (n % 256) as u8
 }
 
-// Lays out the answers.
-fn put_answers(answers: &mut [u8], codes: [u8; 5], met: [u8; 5], counts: [u16; 5])
-    requires { ⌜ (length (now answers) ≡ 20) × (length codes ≡ 5) × (length met ≡ 5) ⌝ }
-    ensures { λ _. ⌜ now (answers .exit) ≡ laid codes met counts ⌝ }
+// Lays out the answers: per port its code, what its arrival met, and how many were withdrawn, in two bytes, high first.
+pub fn put_answers(
+    answers: &mut [u8],
+    codes: [u8; Router::PORTS],
+    met: [u8; Router::PORTS],
+    counts: [u16; Router::PORTS],
+)
+    requires { ⌜ length (now answers) ≡ answersLength ⌝ }
+    ensures { λ _. ⌜ now (answers .exit) ≡ answersArea (byte codes) (byte met) (byte counts) ⌝ }
 {
-    let withdrawn = [
-        high(counts[0]),
-        low(counts[0]),
-        high(counts[1]),
-        low(counts[1]),
-        high(counts[2]),
-        low(counts[2]),
-        high(counts[3]),
-        low(counts[3]),
-        high(counts[4]),
-        low(counts[4]),
-    ];
-    layout::copy_in(&codes, answers, 0);
-    layout::copy_in(&met, answers, 5);
-    layout::copy_in(&withdrawn, answers, 10);
+    let mut port = 0;
+    while port < Router::PORTS {
+        let at = WITHDRAWN + 2 * port;
+        let count = counts[port];
+        answers[port] = codes[port];
+        answers[ARRIVALS + port] = met[port];
+        answers[at] = high(count);
+        answers[at + 1] = low(count);
+        port += 1;
+    }
 }
 
 // The six steps, of a sound state.

@@ -37,7 +37,7 @@ use denote.Triple.Spec.{Meets, tripleOf}
 use denote.Triple.Table.{entered, cited}
 use denote.Triple.Walked.{says, Stays, stay-ref, stay-none, walkOf, goes-none, goes-ref, ends-at, walked, walk-meets}
 use denote.Exit.{yes}
-use Rattle.control.specs.Latches.{stored}
+use Rattle.control.specs.Latches.{latchWith}
 use Rattle.control.specs.declared.Latch.{Latch}
 use Rattle.control.proofs.Latch as T
 use Rattle.control.proofs.Latch.Laws as T′
@@ -85,7 +85,7 @@ module _ {M : Type 1} (𝓤 : URA M) (H : Heap 𝓤) (A : Atoms 𝓤) (W : Given
         calls-at ! fm (With 𝓤 H A at-mem run) known to-with (and-then ! (load ! (from ! (stop !)) (look ! 5 refl)) (and-then ! (load ! (from ! (stop !)) (look ! 11 refl)) (and-then ! (load ! (from ! (stop !)) (look ! 9 refl)) (no-more !)))) (λ w.
         use1 W (later (some (λ (r : Latch). (‵ ftrue ⊛ ‵ (T.the-row .own r (w ∷ []))) ⊛ raw (ensured 𝓤 H A by-value.ended (by-value.clauses 𝓤 H A at-mem run) tt (h, (n, (v, tt))) tt r)))) (id⊢ 𝓤 _) $ await ! tt $ pick ! (λ r.
         -- of what `with` ensures, the clause alone
-        split ! $ move ! (1 ∷ []) $ use1 W (raw (fact 𝓤 (r ≡ stored h n v))) (exE 𝓤 _ (λ z. snd∗ 𝓤 (sem 𝓤 H A (lasts by-value.ended tt (h, (n, (v, tt))) z)) (fact 𝓤 (r ≡ stored h n v)))) $ heard ! (r ≡ stored h n v) (λ e. split ! $ drop ! $ typed ! r w (λ wt′.
+        split ! $ move ! (1 ∷ []) $ use1 W (raw (fact 𝓤 (r ≡ latchWith h n v))) (exE 𝓤 _ (λ z. snd∗ 𝓤 (sem 𝓤 H A (lasts by-value.ended tt (h, (n, (v, tt))) z)) (fact 𝓤 (r ≡ latchWith h n v)))) $ heard ! (r ≡ latchWith h n v) (λ e. split ! $ drop ! $ typed ! r w (λ wt′.
         -- [what the result owns; the struct's cell; the open borrow; obs; auth; _5; …; _4; …]
         land ! (from ! (stop !)) (init ! 7 refl wt′) $
         assigns ! (of-opd ! (load ! (from ! (stop !)) (look ! 7 refl))) (from ! (hop ! (look ! 13 refl) (stop !))) (store-raw ! 1 refl wt′) $

@@ -41,7 +41,7 @@ use denote.Triple.Spec.{Meets, tripleOf}
 use denote.Triple.Table.{entered, cited}
 use denote.Triple.Walked.{says, Stays, stay-none, walkOf, goes-none, ends-at, walked, walk-meets}
 use denote.Exit.{yes}
-use Rattle.control.specs.Latches.{stored}
+use Rattle.control.specs.Latches.{latchWith}
 use Rattle.control.specs.declared.Latch.{Latch}
 use Rattle.control.proofs.Latch as T
 use Rattle.control.proofs.Latch.Laws as T′
@@ -67,7 +67,7 @@ module _ {M : Type 1} (𝓤 : URA M) (H : Heap 𝓤) (A : Atoms 𝓤) (W : Given
   mach = LL.val T.the-type T′.the-laws h
 
   abbrev next : Latch
-  next = stored h n v
+  next = latchWith h n v
 
   abbrev bound : walkOf 𝓤 H A f.ended stayed (f.clauses 𝓤 H A at-mem run) .Ghost
   bound = ((tt, tt, tt, (h, (n, (v, tt))), (mach ∷ [], at-bytes n v)), tt)
@@ -89,7 +89,8 @@ module _ {M : Type 1} (𝓤 : URA M) (H : Heap 𝓤) (A : Atoms 𝓤) (W : Given
         assigns ! (addr ! (from ! (stop !))) (from ! (stop !)) (init ! 0 refl (tt, tt)) $
         -- the local is lent for a new lifetime
         move ! (4 ∷ 14 ∷ []) $ use2 W (‵ (partAt T.the-row fullShare h l₄ 0)) (part-in 𝓤 H A W T.the-row refl fullShare h l₄ 0 mach) $
-        lft-new ! tt (λ α. move ! (1 ∷ []) $ use1 W (later (some (λ (δ : GName). ‵ (MutRef (named 0) (α ∷ []) T.the-row .own (lent-at l₄ δ) (vptr l₄ 0 ∷ [])) ⊛ ‵ (flent (α ∷ []) (Body (mem T.the-row) l₄ 0 δ))))) (lends-ref 𝓤 H A W T.the-row (named 0) (α ∷ []) h l₄ 0) $ await ! tt $ pick ! (λ δ. split ! $
+        lft-new ! tt (λ α. move ! (1 ∷ []) $ use1 W (later (some (λ (δ : GName). ‵ (MutRef (named 0) (α ∷ []) T.the-row .own (lent-at l₄ δ) (vptr l₄ 0 ∷ [])) ⊛ ‵ (flent (α ∷ []) (Body (mem T.the-row) l₄ 0 δ))))) (lends-ref 𝓤 H A W T.the-row (named 0) (α ∷ []) h l₄ 0) $
+        await ! tt $ pick ! (λ δ. split ! $
         -- [the reference; the lender's part; the token; _6; …; _5; …; _4's end; _3; …]
         bytes ! n v n-fits v-fits $ move ! (1 ∷ 0 ∷ []) $ fjoin ! $ nothing ! $ move ! (3 ∷ 0 ∷ []) $ join ! $ join ! $ nothing ! $ move ! (1 ∷ 0 ∷ []) $ join ! $ use1 W (raw (Store 𝓤 H A at-mem run .pre (to-store α l₄ δ))) (id⊢ 𝓤 _) $
         calls-at ! fm (Store 𝓤 H A at-mem run) known (to-store α l₄ δ) (and-then ! (load ! (from ! (stop !)) (look ! 2 refl)) (and-then ! (load ! (from ! (stop !)) (look ! 9 refl)) (and-then ! (load ! (from ! (stop !)) (look ! 7 refl)) (no-more !)))) (λ w.

@@ -1,10 +1,30 @@
--- `control::write_register` meets its contract: the arms are the cases of `written`, and the last of them is `kept-written` of Laws. Assumes nothing.
+-- `control::write_register` meets its contract: the arms are the cases of `written`. In the last of them the latch's byte of the register is the value that was
+-- stored in it. Assumes nothing.
+use Prim.Native.Nat.{ℕ, zero, suc, _≤_}
+use mathlib.Core.Path.{_≡_, refl, _∙_}
+use mathlib.Core.List.{List}
+use mathlib.Core.Logic.{_≢_}
+use native.Mathlib.Omega.{arith}
 use borrow.Author.Needs.{needs}
-use mathlib.Core.Path.{_∙_}
+use Rattle.rules.specs.Areas.{latchPlace}
+use Rattle.rules.specs.Board.{latch}
+use Rattle.rules.specs.Board8.{board8}
 use Rattle.rules.specs.Control.{written}
-use Rattle.control.proofs.Laws.{kept-written}
+use Rattle.control.specs.declared.Latch.{Latch}
+use Rattle.control.specs.Latches.{latchWith, latchByte}
 use Rattle.control.proofs.write_register.Statement.{statement}
 use Rattle.control.proofs.write_register.Tie as tie
+
+-- A register stored in the latch, and its byte from there in the state, is that register's store.
+stored-written : (s : List ℕ) (l : Latch) (v r : ℕ) → r ≤ 5 → r ≢ 3 → r ≢ 5 → board8 .put s (latch (latchPlace r)) (latchByte (latchWith l r v) r) ≡ written board8 r v s
+unfolding written
+stored-written s l v zero h a b = refl
+stored-written s l v (suc zero) h a b = refl
+stored-written s l v (suc (suc zero)) h a b = refl
+stored-written s l v (suc (suc (suc zero))) h a b = absurd (a refl)
+stored-written s l v (suc (suc (suc (suc zero)))) h a b = refl
+stored-written s l v (suc (suc (suc (suc (suc zero))))) h a b = absurd (b refl)
+stored-written s l v (suc (suc (suc (suc (suc (suc n)))))) h a b = absurd (omega arith)
 
 commit-entry-requires : tie.Need-commit-entry-requires
 commit-entry-requires c κs = search needs
@@ -18,33 +38,44 @@ read-requires c κs = search needs
 stored-in-requires : tie.Need-stored-in-requires
 stored-in-requires c κs = search needs
 
-keep-requires : tie.Need-keep-requires
-keep-requires c κs = search needs
+latch-place-requires : tie.Need-latch-place-requires
+latch-place-requires c κs = search needs
+
+byte-requires : tie.Need-byte-requires
+byte-requires c κs = search needs
+
+put-requires : tie.Need-put-requires
+put-requires c κs = search needs
 
 same-length : tie.Need-same-length
 same-length c = search needs
 
 returns : tie.Need-returns
 unfolding written
-returns c = rw (c .before .before .before .before .match .keys1) (c .before .before .commit-entry .ensures)
+returns c = let e = c .before .before in
+    rw (e .before .before .match .keys1) (e .commit-entry .ensures)
 
 same-length-2 : tie.Need-same-length-2
 same-length-2 c = search needs
 
 returns-2 : tie.Need-returns-2
 unfolding written
-returns-2 c = rw (c .before .before .before .before .match .keys2) (c .before .before .commit-horizon .ensures)
+returns-2 c = let h = c .before .before in
+    rw (h .before .before .match .keys2) (h .commit-horizon .ensures)
 
 same-length-3 : tie.Need-same-length-3
 same-length-3 c = search needs
 
 returns-3 : tie.Need-returns-3
 returns-3 c =
-    let k = c .before .before in
-    let m = k .before .before .before .before .before in
+    let p = c .before .before in
+    let b = p .before in
+    let l = b .before .before in
+    let s = l .before in
+    let m = s .before .before .before in
     let a = m .before .before .args in
-    k .keep .ensures
-    ∙ rw (k .before .stored-in .ensures) (kept-written (a .state .now) (k .before .before .before .read .result) (a .value) (a .register) (m .before .before .pre) (m .match .rest .0 .1) (m .match .rest .1))
+    p .put .ensures
+    ∙ rw (l .latch-place .ensures, b .byte .ensures, s .stored-in .ensures) (stored-written (a .state .now) (s .before .read .result) (a .value) (a .register) (m .before .before .pre) (m .match .rest .0 .1) (m .match .rest .1))
 
 pub write-register-spec : {M : Type 1} → statement M
 write-register-spec =
@@ -54,7 +85,9 @@ write-register-spec =
     commit-horizon-requires
     read-requires
     stored-in-requires
-    keep-requires
+    latch-place-requires
+    byte-requires
+    put-requires
     same-length
     returns
     same-length-2

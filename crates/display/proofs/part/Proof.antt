@@ -1,8 +1,14 @@
--- `display::part` meets its contract: past the two questions the part is the data of the packet (`display-data` of Laws). Assumes nothing.
+-- `display::part` meets its contract: it is empty, or 18 bytes from where the data start, which lie inside the area (Starts). Assumes nothing.
+use mathlib.Core.Path.{sym, _∙_}
+use native.Mathlib.Omega.{arith}
 use borrow.Author.Needs.{needs}
-use Rattle.display.proofs.Laws.{display-long, display-port, display-data}
+use borrow.Author.Tests.{not-true, not-false}
+use Rattle.display.proofs.Starts.{empty, inside, data-shown}
 use Rattle.display.proofs.part.Statement.{statement}
 use Rattle.display.proofs.part.Tie as tie
+
+is-shown-requires : tie.Need-is-shown-requires
+is-shown-requires c κs = search needs
 
 sub-result : tie.Need-sub-result
 sub-result c = search needs
@@ -14,7 +20,13 @@ part-result-end : tie.Need-part-result-end
 part-result-end c = search needs
 
 returns : tie.Need-returns
-returns c = display-long _ _ (c .before .if1 .taken)
+returns c = let i = c .before .before .is-shown in empty _ _ (sym (i .ensures) ∙ not-true (i .result) (c .before .if1 .taken))
+
+data-start-requires : tie.Need-data-start-requires
+data-start-requires c κs = search needs
+
+add-to : tie.Need-add-to
+add-to c = search needs
 
 sub-result-2 : tie.Need-sub-result-2
 sub-result-2 c = search needs
@@ -23,48 +35,29 @@ part-result-start-2 : tie.Need-part-result-start-2
 part-result-start-2 c = search needs
 
 part-result-end-2 : tie.Need-part-result-end-2
-part-result-end-2 c = search needs
+part-result-end-2 c =
+    let i = c .before .before .is-shown in
+    let a = c .before .before .before .before .args in
+    omega (arith, inside (a .outgoing .now) (a .port) (sym (i .ensures) ∙ not-false (i .result) (c .before .if1 .left)))
 
 returns-2 : tie.Need-returns-2
-returns-2 c = display-port _ _ (c .before .before .if1 .left) (c .before .if2 .taken)
-
-mul-start : tie.Need-mul-start
-mul-start c = search needs
-
-add-start : tie.Need-add-start
-add-start c = search needs
-
-add-end : tie.Need-add-end
-add-end c = search needs
-
-sub-result-3 : tie.Need-sub-result-3
-sub-result-3 c = search needs
-
-part-result-start-3 : tie.Need-part-result-start-3
-part-result-start-3 c = search needs
-
-part-result-end-3 : tie.Need-part-result-end-3
-part-result-end-3 c = search needs
-
-returns-3 : tie.Need-returns-3
-returns-3 c = display-data _ (c .before .before .before .args .port) (c .before .before .if1 .left) (c .before .if2 .left)
+returns-2 c =
+    let d = c .before .data-start in
+    let i = c .before .before .before .is-shown in
+    data-shown _ _ (d .result) (d .ensures) (sym (i .ensures) ∙ not-false (i .result) (c .before .before .if1 .left))
 
 pub part-spec : {M : Type 1} → statement M
 part-spec =
     tie.close
     (tie.spec
+    is-shown-requires
     sub-result
     part-result-start
     part-result-end
     returns
+    data-start-requires
+    add-to
     sub-result-2
     part-result-start-2
     part-result-end-2
-    returns-2
-    mul-start
-    add-start
-    add-end
-    sub-result-3
-    part-result-start-3
-    part-result-end-3
-    returns-3)
+    returns-2)

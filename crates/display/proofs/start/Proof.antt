@@ -1,26 +1,24 @@
--- `display::start` meets its contract: whether the part is empty tells where it starts (`start-of` of Laws). Assumes nothing.
+-- `display::start` meets its contract: nothing is shown, or the data start there (Starts). Assumes nothing.
+use mathlib.Core.Path.{sym, _∙_}
 use borrow.Author.Needs.{needs}
-use mathlib.Core.Path.{ap, sym, _∙_}
-use lib.ListN.{length}
-use Rattle.display.proofs.Laws.{start-of}
+use borrow.Author.Tests.{not-true, not-false}
+use Rattle.display.proofs.Starts.{at-the-end, at-the-data}
 use Rattle.display.proofs.start.Statement.{statement}
 use Rattle.display.proofs.start.Tie as tie
 
-part-requires : tie.Need-part-requires
-part-requires c κs = search needs
+is-shown-requires : tie.Need-is-shown-requires
+is-shown-requires c κs = search needs
 
 returns : tie.Need-returns
-returns c = let d = c .before in start-of _ _ .0 (ap length (sym (d .part .ensures)) ∙ c .if1 .taken)
+returns c = let i = c .before .is-shown in at-the-end _ _ (sym (i .ensures) ∙ not-true (i .result) (c .if1 .taken))
 
-mul-packet : tie.Need-mul-packet
-mul-packet c = search needs
-
-add-result : tie.Need-add-result
-add-result c = search needs
+data-start-requires : tie.Need-data-start-requires
+data-start-requires c κs = search needs
 
 returns-2 : tie.Need-returns-2
-returns-2 c = let d = c .before in start-of _ _ .1 (λ e. c .if1 .left (ap length (d .part .ensures) ∙ e))
+returns-2 c =
+    let i = c .before .before .is-shown in
+    rw (c .data-start .ensures) (at-the-data _ _ (sym (i .ensures) ∙ not-false (i .result) (c .before .if1 .left)))
 
 pub start-spec : {M : Type 1} → statement M
-start-spec =
-    tie.close (tie.spec part-requires returns mul-packet add-result returns-2)
+start-spec = tie.close (tie.spec is-shown-requires returns data-start-requires returns-2)

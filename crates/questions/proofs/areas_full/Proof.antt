@@ -1,23 +1,28 @@
--- `questions::areas_full` meets its contract: each return has the lengths tested so far (`areas-is` of Laws). Assumes nothing.
-use mathlib.Core.Path.{refl, sym}
-use borrow.Author.Tests.{eq-eqb, ne-eqb}
-use Rattle.questions.proofs.Laws.{areas-is}
+-- `questions::areas_full` meets its contract: the tests are those of `full` and of `areasFull`. Assumes nothing.
+use borrow.Author.Needs.{needs}
+use mathlib.Core.Path.{_∙_}
+use Rattle.rules.specs.Areas.{areasFull}
 use Rattle.questions.proofs.areas_full.Statement.{statement}
 use Rattle.questions.proofs.areas_full.Tie as tie
 
+both-requires : tie.Need-both-requires
+both-requires c κs = search needs
+
+both-requires-2 : tie.Need-both-requires-2
+both-requires-2 c κs = search needs
+
+store-full-requires : tie.Need-store-full-requires
+store-full-requires c κs = search needs
+
+both-requires-3 : tie.Need-both-requires-3
+both-requires-3 c κs = search needs
+
 returns : tie.Need-returns
-returns c = areas-is _ _ _ (sym (ne-eqb _ _ (c .if1 .taken))) refl refl
-
-returns-2 : tie.Need-returns-2
-returns-2 c = areas-is _ _ _ (sym (eq-eqb _ _ (c .before .if1 .left))) (sym (ne-eqb _ _ (λ e. c .if2 .taken (sym e)))) refl
-
-returns-3 : tie.Need-returns-3
-returns-3 c = areas-is _ _ _ (sym (eq-eqb _ _ (c .before .if1 .left))) (sym (eq-eqb _ _ (sym (c .if2 .left)))) refl
+unfolding areasFull
+returns c =
+    let s = c .before in
+    c .both3 .ensures ∙ rw (s .store-full .ensures, s .before .both2 .ensures, s .before .before .both .ensures)
 
 pub areas-full-spec : {M : Type 1} → statement M
 areas-full-spec =
-    tie.close
-    (tie.spec
-    returns
-    returns-2
-    returns-3)
+    tie.close (tie.spec both-requires both-requires-2 store-full-requires both-requires-3 returns)

@@ -1,19 +1,15 @@
--- `questions::store_full` meets its contract: each return has the lengths tested so far (`full-is` of Laws). Assumes nothing.
-use mathlib.Core.Path.{refl, sym}
-use borrow.Author.Tests.{eq-eqb, ne-eqb}
-use Rattle.questions.proofs.Laws.{full-is}
+-- `questions::store_full` meets its contract: the two tests are those of `full`. Assumes nothing.
+use borrow.Author.Needs.{needs}
+use Rattle.rules.specs.Questions.{full}
 use Rattle.questions.proofs.store_full.Statement.{statement}
 use Rattle.questions.proofs.store_full.Tie as tie
 
-returns : tie.Need-returns
-returns c = full-is _ (sym (ne-eqb _ _ (c .if1 .taken))) refl
+both-requires : tie.Need-both-requires
+both-requires c κs = search needs
 
-returns-2 : tie.Need-returns-2
-returns-2 c = full-is _ (sym (eq-eqb _ _ (c .if1 .left))) refl
+returns : tie.Need-returns
+unfolding full
+returns c = c .both .ensures
 
 pub store-full-spec : {M : Type 1} → statement M
-store-full-spec =
-    tie.close
-    (tie.spec
-    returns
-    returns-2)
+store-full-spec = tie.close (tie.spec both-requires returns)

@@ -1,8 +1,9 @@
 -- `router::router_control` meets its contract: a number other than 0 alters nothing, and with 0 the register is known and the write is `written`.
 -- Assumes nothing.
 use borrow.Author.Needs.{needs}
-use mathlib.Core.Path.{sym, _∙_}
-use Rattle.router.proofs.Laws.{known, refused, accepted}
+use native.Mathlib.Omega.{arith}
+use mathlib.Core.Path.{_≡_, sym, _∙_}
+use Rattle.router.proofs.Outcomes.{known, control-refused, control-accepted}
 use Rattle.router.proofs.router_control.Statement.{statement}
 use Rattle.router.proofs.router_control.Tie as tie
 
@@ -16,12 +17,8 @@ same-length : tie.Need-same-length
 same-length c = search needs
 
 returns : tie.Need-returns
-returns c = refused _ _ _ _ (c .before .number .ensures ∙ c .before .before .of-control .ensures) (c .if1 .taken)
-
-write-register-requires : tie.Need-write-register-requires
-write-register-requires c κs =
-    let q = c .before .before .before in
-    known _ _ (q .before .before .before .before .args .value) (sym (c .before .before .number .ensures ∙ q .of-control .ensures) ∙ c .before .if1 .left)
+returns c = let q = c .before in
+    control-refused _ _ _ _ (q .number .ensures ∙ q .before .of-control .ensures) (λ e. omega arith)
 
 same-length-2 : tie.Need-same-length-2
 same-length-2 c = search needs
@@ -29,8 +26,14 @@ same-length-2 c = search needs
 returns-2 : tie.Need-returns-2
 returns-2 c =
     let w = c .before .before in
-    let n = w .before .before .before in
-    accepted _ _ _ _ (n .number .ensures ∙ n .before .of-control .ensures) (w .before .before .if1 .left) _ (w .write-register .ensures)
+    let q = w .before .before .before in
+    let zero : q .number .result ≡ 0 = omega arith in
+    control-accepted _ _ _ _ (q .number .ensures ∙ q .before .of-control .ensures) zero _ (w .write-register .ensures)
+
+write-register-requires : tie.Need-write-register-requires
+write-register-requires c κs =
+    let q = c .before .before in
+    known _ _ (q .before .before .before .before .before .args .value) (sym (q .number .ensures ∙ q .before .of-control .ensures) ∙ c .before .if1 .left)
 
 pub router-control-spec : {M : Type 1} → statement M
 router-control-spec =

@@ -1,8 +1,9 @@
 -- `router::router_tick` meets its contract: a number other than 0 alters nothing, and with 0 the areas are whole, the stack has room, and the work is `ticked`.
 -- Assumes nothing.
 use borrow.Author.Needs.{needs}
-use mathlib.Core.Path.{sym, _∙_}
-use Rattle.router.proofs.Laws.{tick-refused, tick-accepted}
+use native.Mathlib.Omega.{arith}
+use mathlib.Core.Path.{_≡_, sym, _∙_}
+use Rattle.router.proofs.Outcomes.{tick-refused, tick-accepted}
 use Rattle.router.proofs.router_tick.Statement.{statement}
 use Rattle.router.proofs.router_tick.Tie as tie
 
@@ -25,12 +26,8 @@ same-length-4 : tie.Need-same-length-4
 same-length-4 c = search needs
 
 returns : tie.Need-returns
-returns c = tick-refused _ _ _ _ _ _ _ (c .before .number .ensures ∙ c .before .before .of-tick .ensures .0) (c .if1 .taken)
-
-work-requires : tie.Need-work-requires
-work-requires c κs =
-    let i = c .before .before .before .before in
-    i .before .before .of-tick .ensures .1 (sym (i .before .number .ensures) ∙ i .if1 .left)
+returns c = let q = c .before in
+    tick-refused _ _ _ _ _ _ _ (q .number .ensures ∙ q .before .of-tick .ensures .0) (λ e. omega arith)
 
 same-length-5 : tie.Need-same-length-5
 same-length-5 c = search needs
@@ -47,8 +44,14 @@ same-length-8 c = search needs
 returns-2 : tie.Need-returns-2
 returns-2 c =
     let w = c .before .before .before .before .before .before .before .before in
-    let i = w .before .before .before .before .before in
-    tick-accepted _ _ _ _ _ _ _ (i .before .number .ensures ∙ i .before .before .of-tick .ensures .0) (i .if1 .left) _ _ _ (w .work .ensures)
+    let q = w .before .before .before .before .before .before in
+    let zero : q .number .result ≡ 0 = omega arith in
+    tick-accepted _ _ _ _ _ _ _ (q .number .ensures ∙ q .before .of-tick .ensures .0) zero _ _ _ (w .work .ensures)
+
+work-requires : tie.Need-work-requires
+work-requires c κs =
+    let i = c .before .before .before .before in
+    i .before .before .of-tick .ensures .1 (sym (i .before .number .ensures) ∙ i .if1 .left)
 
 pub router-tick-spec : {M : Type 1} → statement M
 router-tick-spec =

@@ -1,6 +1,6 @@
--- `tick::work` meets its contract: what the steps leave and answer makes `ticked` (`ticked-is` of Laws); the arrivals leave room on the stack. Assumes nothing.
+-- `tick::work` meets its contract: what the steps leave and answer makes `ticked` (`ticked-is` of Steps); the arrivals leave room on the stack. Assumes nothing.
 use borrow.Author.Needs.{needs}
-use Rattle.tick.proofs.Laws.{ticked-is, length-five}
+use Rattle.tick.proofs.Steps.{ticked-is}
 use Rattle.tick.proofs.work.Statement.{statement}
 use Rattle.tick.proofs.work.Tie as tie
 
@@ -14,10 +14,7 @@ serve-and-settle-requires c κs =
     ((search needs, search needs, search needs), a .arrive .ensures .1 .1 (p .5))
 
 put-answers-requires : tie.Need-put-answers-requires
-put-answers-requires c κs =
-    let s = c .before .before .before .before .before .before .before in
-    let a = s .before .before .before .before .before .before .before .before in
-    (search needs, length-five _ _ (s .serve-and-settle .ensures .0), length-five _ _ (a .arrive .ensures .0))
+put-answers-requires c κs = search needs
 
 same-length : tie.Need-same-length
 same-length c = search needs

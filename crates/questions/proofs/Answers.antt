@@ -1,0 +1,57 @@
+-- What a call's questions come to by the answers that the code has, and what question 1 gives once it is passed. Assumes nothing.
+use Prim.Native.Nat.{ℕ}
+use mathlib.Core.Path.{_≡_, refl, sym, _∙_}
+use mathlib.Core.Bool.{Bool, true, false, not, _&&_}
+use mathlib.Core.List.{List, [], _∷_}
+use lib.ListN.{length}
+use lib.Dec.{eqb}
+use borrow.Author.Tests.{eqb-true, not-true, not-false}
+use Rattle.rules.specs.Areas.{Store, memoryLength, arrivalsLength, outgoingLength, answersLength, areasFull}
+use Rattle.rules.specs.Asked.{Question, asked}
+use Rattle.rules.specs.Board8.{board8}
+use Rattle.rules.specs.Questions.{full}
+use Rattle.layout.specs.Room.{Room, Lent}
+use Rattle.rules.proofs.Booleans.{and-left, and-right}
+
+-- ---- the next question of a call, whose answer the code has as `test`
+
+module _ (passed : Bool) (n : ℕ) (qs : List Question) {test : Bool} (answer : test ≡ passed) where
+  -- No: the call stops with the question's number.
+  pub no : not test ≡ true → n ≡ asked ((passed, n) ∷ qs)
+  unfolding asked
+  no h = rw (← answer, not-true test h)
+
+  -- Yes: the number is that of the questions after it.
+  pub yes : not test ≡ false → {m : ℕ} → m ≡ asked qs → m ≡ asked ((passed, n) ∷ qs)
+  unfolding asked
+  yes h e = rw (← answer, not-false test h) e
+
+-- No question is left: accepted.
+pub accepted : 0 ≡ asked []
+unfolding asked
+accepted = refl
+
+-- A question that is passed.
+pub passed : {a test : Bool} → test ≡ a → not test ≡ false → a ≡ true
+passed {test = test} answer h = sym answer ∙ not-false test h
+
+-- ---- question 1, passed
+
+pub full-lengths : (r : Store) → full board8 r ≡ true → (length (r .state) ≡ board8 .stateLength) × (length (r .memory) ≡ memoryLength)
+unfolding full
+full-lengths r e =
+    let s = eqb (length (r .state)) (board8 .stateLength) in
+    let m = eqb (length (r .memory)) memoryLength in
+    (eqb-true _ _ (and-left s m e), eqb-true _ _ (and-right s m e))
+
+pub all-lent : (s m area out ans : List ℕ) → (full board8 (record { state = s; memory = m }) && areasFull area out ans) ≡ true → Room s → Lent s m area out ans
+unfolding areasFull
+all-lent s m area out ans e room =
+    let f = full board8 (record { state = s; memory = m }) in
+    let a = eqb (length area) arrivalsLength in
+    let o = eqb (length out) outgoingLength in
+    let n = eqb (length ans) answersLength in
+    let store = full-lengths _ (and-left f (a && o && n) e) in
+    let areas = and-right f (a && o && n) e in
+    let packets = and-left (a && o) n areas in
+    (store .0, store .1, eqb-true _ _ (and-left a o packets), eqb-true _ _ (and-right a o packets), eqb-true _ _ (and-right (a && o) n areas), room)
