@@ -30,23 +30,23 @@ module _ (c : tie.After-since) where
   abbrev d : ℕ
   d = c .since .result
 
-  by-delay : (t h : ℕ) (v w : Bool) → t ≡ board8 .get (a .args .state .now) clock
+  by-delay : {t h : ℕ} {v w : Bool} → t ≡ board8 .get (a .args .state .now) clock
       → v ≡ (leZ (negℤ (pos d)) (offset (bits 1) x t) && leZ (offset (bits 1) x t) (pos 126)) → h ≡ stamp 1 (packet (a .args .memory .now) (a .args .s .0))
       → w ≡ (ltb d 128 && v && eqb h (c .before .read3 .result)) → w ≡ slotSound board8 (store (a .args .state .now) (a .args .memory .now)) (a .args .s .0)
   unfolding half low
-  by-delay t h v w et ev eh e =
+  by-delay et ev eh e =
       let m = c .before .before .before .before in
-      slot-sound-is board8 _ _ (m .before .read .result) x (c .before .read3 .result) t d h v w (m .before .read .ensures) (c .before .before .read2 .ensures) (c .before .read3 .ensures) et (c .since .ensures) ev eh
+      slot-sound-is board8 _ _ (m .before .read .ensures) (c .before .before .read2 .ensures) (c .before .read3 .ensures) et (c .since .ensures) ev eh
       (e ∙ rw (ne-eqb _ _ (m .if1 .left), le-leb (m .before .read .result) 31 (omega arith)))
 
 read-requires : tie.Need-read-requires
 read-requires c κs = search needs
 
 returns : tie.Need-returns
-returns c = slot-sound-is board8 _ _ _ _ _ _ _ _ _ _ (c .before .read .ensures) refl refl refl refl refl refl (rw (eq-eqb _ _ (c .if1 .taken)))
+returns c = slot-sound-is board8 _ _ (c .before .read .ensures) refl refl refl refl refl refl (rw (eq-eqb _ _ (c .if1 .taken)))
 
 returns-2 : tie.Need-returns-2
-returns-2 c = slot-sound-is board8 _ _ _ _ _ _ _ _ _ _ (c .before .before .read .ensures) refl refl refl refl refl refl (rw (ne-eqb _ _ (c .before .if1 .left), lt-leb (c .before .before .read .result) 31 (omega arith)))
+returns-2 c = slot-sound-is board8 _ _ (c .before .before .read .ensures) refl refl refl refl refl refl (rw (ne-eqb _ _ (c .before .if1 .left), lt-leb (c .before .before .read .result) 31 (omega arith)))
 
 read-requires-2 : tie.Need-read-requires-2
 read-requires-2 c κs = search needs
@@ -58,7 +58,7 @@ since-requires : tie.Need-since-requires
 since-requires c κs = search needs
 
 returns-3 : tie.Need-returns-3
-returns-3 c = by-delay (c .before) _ _ _ _ refl refl refl (rw (le-ltb (c .before .since .result) 128 (omega arith)))
+returns-3 c = by-delay (c .before) refl refl refl (rw (le-ltb (c .before .since .result) 128 (omega arith)))
 
 read-requires-4 : tie.Need-read-requires-4
 read-requires-4 c κs = search needs
@@ -68,7 +68,7 @@ offset-sound-requires c κs = search needs
 
 returns-4 : tie.Need-returns-4
 returns-4 c = let d = c .before .before .before .before in
-    by-delay d _ _ _ _ (c .before .before .read4 .ensures) (c .before .offset-sound .ensures) refl
+    by-delay d (c .before .before .read4 .ensures) (c .before .offset-sound .ensures) refl
     (rw (lt-ltb (d .since .result) 128 (omega arith), not-true (c .before .offset-sound .result) (c .if4 .taken)))
 
 cast-result : tie.Need-cast-result
@@ -86,7 +86,7 @@ shared-slice-read-result c = search needs
 returns-5 : tie.Need-returns-5
 returns-5 c = let o = c .before .before .before .before in
     let d = o .before .before .before in
-    by-delay d _ _ _ _ (o .before .read4 .ensures) (o .offset-sound .ensures) (sym (stamp-one _ ∙ packet-byte _ _ 1 (omega arith)))
+    by-delay d (o .before .read4 .ensures) (o .offset-sound .ensures) (sym (stamp-one _ ∙ packet-byte _ _ 1 (omega arith)))
     (rw (lt-ltb (d .since .result) 128 (omega arith), not-false (o .offset-sound .result) (c .before .before .before .if4 .left)))
 
 pub slot-sound-spec : {M : Type 1} → statement M
