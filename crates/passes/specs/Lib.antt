@@ -1,1 +1,5 @@
 pub mod Empty
+pub mod Ports
+pub mod Ranks
+pub mod Sends
+pub mod Settling

@@ -1,0 +1,177 @@
+-- One minimum finds the winner: of two slots the lower rank is the one that the comparator puts first, or of equal keys the lower slot's, so that the least rank
+-- is that of the least key; and it says whom the port is granted. Assumes nothing.
+use Prim.Native.Nat.{ℕ, suc, _+_, _-_, _*_, _/_, _%_, _^_, _<_, _≤_}
+use mathlib.Core.Path.{_≡_, refl, sym, ap, subst, _∙_}
+use mathlib.Core.Bool.{Bool, true, false, cond, not}
+use mathlib.Core.List.{List}
+use mathlib.Core.Option.{Option, none, some}
+use native.Mathlib.Decide.{decLt}
+use native.Mathlib.Omega.{arith}
+use lib.Dec.{leb, ltb}
+use lib.ListN.{replicate, getD-replicate}
+use borrow.Author.Tests.{lt-ltb, le-ltb, lt-leb, le-leb}
+use Rattle.rules.specs.Clock.{minus}
+use Rattle.rules.specs.Indices.{better, least}
+use Rattle.rules.specs.Areas.{bits, has, Grant, nobody, bestEffort, onTime, early}
+use Rattle.rules.specs.Board.{Board, horizon, mask}
+use Rattle.rules.specs.Order.{by, then, Key, onTimeFirst, comparator}
+use Rattle.rules.specs.Tick.{granted, slotKey, candidate, grant}
+use Rattle.rules.proofs.Booleans.{some-inj, none-some}
+use Rattle.rules.proofs.ClockLaws.{minus-lt}
+use Rattle.rules.proofs.IndexLaws.{least-in}
+use Rattle.rules.proofs.Masks.{has-zero}
+use Rattle.passes.specs.Ports.{EachPort, changed}
+use Rattle.passes.specs.Ranks.{lesser, rank, rankOf, chosen, slotRank, best}
+use Rattle.passes.proofs.MaskPorts.{has-low}
+
+-- ---- ranks and the comparator
+
+module _ (turn : ℕ) where
+  -- A least key is below a turn, at a slot below n.
+  abbrev Small : ℕ → Option (ℕ × Key ℕ) → Type 0
+  Small n none = Unit
+  Small n (some (i, k)) = (i < n) × (k .key < turn)
+
+  -- Against a lower slot, the rank is less exactly if the comparator puts the key first.
+  rank-order : (i j : ℕ) (k l : Key ℕ) → j < i → i < 256 → k .key < turn → l .key < turn → ltb (rank turn i k) (rank turn j l) ≡ comparator ltb k l
+  unfolding comparator then by onTimeFirst
+  rank-order i j k l h m hk hl = go (k .early) (l .early) (decLt (k .key) (l .key))
+    where
+      x : ℕ
+      x = k .key
+
+      y : ℕ
+      y = l .key
+
+      go : (a b : Bool) → Dec (x < y) → ltb (cond a (turn * 256) 0 + x * 256 + i) (cond b (turn * 256) 0 + y * 256 + j) ≡ comparator ltb (record { early = a; key = x }) (record { early = b; key = y })
+      go false true d = lt-ltb (0 + x * 256 + i) (turn * 256 + y * 256 + j) (omega arith)
+      go true false d = le-ltb (turn * 256 + x * 256 + i) (0 + y * 256 + j) (omega arith)
+      go false false (yes q) = lt-ltb (0 + x * 256 + i) (0 + y * 256 + j) (omega arith) ∙ sym (lt-ltb x y q)
+      go false false (no q) = le-ltb (0 + x * 256 + i) (0 + y * 256 + j) (omega arith) ∙ sym (le-ltb x y (omega arith))
+      go true true (yes q) = lt-ltb (turn * 256 + x * 256 + i) (turn * 256 + y * 256 + j) (omega arith) ∙ sym (lt-ltb x y q)
+      go true true (no q) = le-ltb (turn * 256 + x * 256 + i) (turn * 256 + y * 256 + j) (omega arith) ∙ sym (le-ltb x y (omega arith))
+
+  -- So the lesser rank is that of the better key.
+  rank-better : (i : ℕ) (k : Key ℕ) → i < 256 → k .key < turn → (v : Option (ℕ × Key ℕ)) → Small i v → lesser (rank turn i k) (rankOf turn v) ≡ rankOf turn (better (comparator ltb) v i (some k))
+  unfolding better rankOf
+  rank-better i k m hk none h = rw (lt-ltb (rank turn i k) (2 * turn * 256) (bound (k .early)))
+    where
+      bound : (a : Bool) → cond a (turn * 256) 0 + k .key * 256 + i < 2 * turn * 256
+      bound true = omega arith
+      bound false = omega arith
+  rank-better i k m hk (some (j, l)) h = rw (rank-order i j k l (h .0) m hk (h .1)) (go (comparator ltb k l))
+    where
+      go : (t : Bool) → cond t (rank turn i k) (rank turn j l) ≡ rankOf turn (cond t (some (i, k)) (some (j, l)))
+      go true = refl
+      go false = refl
+
+  -- What the least rank says, the least key says.
+  chosen-granted : (v : Option (ℕ × Key ℕ)) → Small 256 v → (b : Bool) (h : ℕ) → chosen turn (rankOf turn v) b h ≡ granted v b h
+  unfolding rankOf granted
+  chosen-granted none s b h = rw (le-ltb (2 * turn * 256) (turn * 256) (omega arith), le-leb (2 * turn * 256) (2 * turn * 256) (omega arith))
+  chosen-granted (some (i, k)) s b h = go (k .early)
+    where
+      x : ℕ
+      x = k .key
+
+      far : (r : ℕ) → r ≡ turn * 256 + x * 256 + i → cond (leb (r / 256 - turn) h) (early (r % 256)) nobody ≡ cond (leb x h) (early i) nobody
+      far r e = let p : r / 256 - turn ≡ x = omega arith in let q : r % 256 ≡ i = omega arith in rw (p, q)
+
+      go : (a : Bool) → chosen turn (cond a (turn * 256) 0 + x * 256 + i) b h ≡ cond a (cond b bestEffort (cond (leb x h) (early i) nobody)) (onTime i)
+      go false = rw (lt-ltb (0 + x * 256 + i) (turn * 256) (omega arith)) (ap onTime (omega arith))
+      go true =
+          rw (le-ltb (turn * 256 + x * 256 + i) (turn * 256) (omega arith), lt-leb (2 * turn * 256) (turn * 256 + x * 256 + i) (omega arith))
+          (ap (cond b bestEffort) (far (turn * 256 + x * 256 + i) refl))
+
+module _ (B : Board) where
+  open Board B using (clockBytes as c, get)
+
+  -- ---- the least rank of the slots below i
+
+  abbrev turn : ℕ
+  turn = 2 ^ bits c
+
+  -- A slot's key is a difference of clock readings.
+  key-lt : (s : List ℕ) (i : ℕ) → slotKey B s i .key < turn
+  unfolding slotKey
+  key-lt s i = minus-lt (bits c) _ _
+
+  least-small : (s : List ℕ) (p n : ℕ) → Small turn n (least (comparator ltb) (candidate B s p) n)
+  unfolding candidate
+  least-small s p n = go (least (comparator ltb) (candidate B s p) n) refl
+    where
+      keyed : (t : Bool) (i : ℕ) (k : Key ℕ) → cond t (some (slotKey B s i)) none ≡ some k → k .key < turn
+      keyed true i k e = subst (λ (k : Key ℕ). k .key < turn) (some-inj e) (key-lt s i)
+      keyed false i k e = none-some e
+
+      go : (v : Option (ℕ × Key ℕ)) → least (comparator ltb) (candidate B s p) n ≡ v → Small turn n v
+      go none e = tt
+      go (some (i, k)) e = let h = least-in (comparator ltb) (candidate B s p) n i k e in (h .0, keyed (has (get s (mask i)) p) i k (h .1))
+
+  -- A slot that the port doesn't look at leaves it.
+  best-without : (s : List ℕ) (i p : ℕ) → has (get s (mask i)) p ≡ false → best B s i p ≡ best B s (suc i) p
+  unfolding best least candidate better
+  best-without s i p z = rw z (go (least (comparator ltb) (candidate B s p) i))
+    where
+      go : (v : Option (ℕ × Key ℕ)) → rankOf turn v ≡ rankOf turn (better (comparator ltb) v i none)
+      go none = refl
+      go (some w) = refl
+
+  -- Any other makes it the lesser.
+  best-with : (s : List ℕ) (i p : ℕ) → i < 256 → has (get s (mask i)) p ≡ true → lesser (slotRank B s i) (best B s i p) ≡ best B s (suc i) p
+  unfolding best least candidate
+  best-with s i p h z = rw z (rank-better turn i (slotKey B s i) h (key-lt s i) (least (comparator ltb) (candidate B s p) i) (least-small s p i))
+
+  -- ---- the least ranks of the five ports
+
+  -- No slot looked at.
+  pub bests-start : (s : List ℕ) → EachPort (best B s 0) (replicate 5 (2 * turn * 256))
+  unfolding best least rankOf
+  bests-start s = record { five = refl; each = λ p h. getD-replicate 5 p (2 * turn * 256) 0 h }
+
+  -- Slot i looked at, of whose mask m the code tests the five low bits, and offered to the ports there.
+  module _ (s : List ℕ) (i : ℕ) (h : i < 256) (m : ℕ) (em : m ≡ get s (mask i)) (l : List ℕ) (E : EachPort (best B s i) l) where
+    low : (p : ℕ) → p < 5 → (t : Bool) → has (m % 32) p ≡ t → has (get s (mask i)) p ≡ t
+    low p hp t e = ap (λ (x : ℕ). has x p) (sym em) ∙ sym (has-low m p hp) ∙ e
+
+    pub bests-suc : (r : ℕ) → r ≡ slotRank B s i → (l′ : List ℕ) → EachPort (changed (lesser r) (m % 32) l) l′ → EachPort (best B s (suc i)) l′
+    bests-suc r er l′ O = record { five = O .five; each = λ p hp. O .each p hp ∙ rw (er, E .each p hp) (go p hp (has (m % 32) p) refl) }
+      where
+        go : (p : ℕ) → p < 5 → (t : Bool) → has (m % 32) p ≡ t → cond t (lesser (slotRank B s i) (best B s i p)) (best B s i p) ≡ best B s (suc i) p
+        go p hp true e = best-with s i p h (low p hp true e)
+        go p hp false e = best-without s i p (low p hp false e)
+
+    pub bests-none : m % 32 ≡ 0 → EachPort (best B s (suc i)) l
+    bests-none z = record { five = E .five; each = λ p hp. E .each p hp ∙ best-without s i p (low p hp false (rw z (has-zero p hp))) }
+
+  -- An empty slot changes none.
+  pub best-empty : (s : List ℕ) (p : ℕ) → p < 5 → (i : ℕ) → i < 256 → get s (mask i) ≡ 0 → best B s i p ≡ best B s (suc i) p
+  best-empty s p hp i h z = best-without s i p (rw z (has-zero p hp))
+
+  -- ---- whom the least rank grants the port, by the tests of the code
+
+  module _ (s : List ℕ) (waiting p r : ℕ) (er : r ≡ best B s 256 p) where
+    abbrev Grants : Grant ℕ → Type 0
+    Grants g = g ≡ grant B s waiting p
+
+    chosen-grant : Grants (chosen turn r (has waiting p) (get s (horizon p)))
+    unfolding grant best
+    chosen-grant = rw er (chosen-granted turn (least (comparator ltb) (candidate B s p) 256) (least-small s p 256) (has waiting p) (get s (horizon p)))
+
+    pub grants-on-time : r < turn * 256 → Grants (onTime (r % 256))
+    grants-on-time l = rw (lt-ltb r (turn * 256) l) at chosen-grant
+
+    module _ (l : turn * 256 ≤ r) where
+      pub grants-best-effort : has waiting p ≡ true → Grants bestEffort
+      grants-best-effort w = rw (le-ltb r (turn * 256) l, w) at chosen-grant
+
+      module _ (w : has waiting p ≡ false) where
+        pub grants-nobody : 2 * turn * 256 ≤ r → Grants nobody
+        grants-nobody n = rw (le-ltb r (turn * 256) l, w, le-leb (2 * turn * 256) r n) at chosen-grant
+
+        module _ (n : r < 2 * turn * 256) (h : ℕ) (eh : h ≡ get s (horizon p)) where
+          pub grants-early : r / 256 - turn ≤ h → Grants (early (r % 256))
+          grants-early k = rw (le-ltb r (turn * 256) l, w, lt-leb (2 * turn * 256) r n, ← eh, le-leb (r / 256 - turn) h k) at chosen-grant
+
+          pub grants-idle : h < r / 256 - turn → Grants nobody
+          grants-idle k = rw (le-ltb r (turn * 256) l, w, lt-leb (2 * turn * 256) r n, ← eh, lt-leb (r / 256 - turn) h k) at chosen-grant
