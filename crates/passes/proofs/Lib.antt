@@ -5,3 +5,4 @@ pub mod Ranks
 pub mod SlotMasks
 pub mod GivingBack
 pub mod Sends
+pub mod Settling

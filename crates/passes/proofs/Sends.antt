@@ -8,6 +8,7 @@ use mathlib.Core.Logic.{_≢_}
 use mathlib.Core.Option.{Option, none, some}
 use native.Mathlib.Decide.{ℕ-discrete, decLt}
 use native.Mathlib.Omega.{arith}
+use lib.Pow.{pow-pos}
 use lib.ListN.{length, length-set, getD, set, replicate}
 use lib.Seq.{getD-set-same, getD-set-other, set-out}
 use lib.Dec.{leb, ltb}
@@ -109,6 +110,25 @@ module _ (B : Board) (L : Laws B) where
         go before bestEffort w = before q (omega arith) hq j
         go before (onTime i) w = one before i w (ℕ-discrete j i)
         go before (early i) w = one before i w (ℕ-discrete j i)
+
+    -- No more ports send a slot than its mask has.
+    pub sends-le : (p : ℕ) → p ≤ 5 → (j : ℕ) → getD (sends g p) j 0 ≤ get s (mask j)
+    unfolding sends joined
+    sends-le zero h j = let z = getD-zeros 256 j in omega arith
+    sends-le (suc p) h j = go (sends-le p (omega arith) j) (g p) (wins p (omega arith))
+      where
+        one : getD (sends g p) j 0 ≤ get s (mask j) → (i : ℕ) → (i < 256) × (has (get s (mask i)) p ≡ true) → Dec (j ≡ i) → getD (joins p i) j 0 ≤ get s (mask j)
+        one k i (hi, w) (yes e) =
+            let n = length-sends g p in
+            let q = without-bit (left p i) p (left-has p (omega arith) p (omega arith) (omega arith) i ∙ w) in
+            rw (e, getD-set-same (sends g p) i (getD (sends g p) i 0 + 2 ^ p) 0 (omega arith)) (let m = pow-pos p in omega arith)
+        one k i (hi, w) (no n) = rw (getD-set-other (sends g p) i j (getD (sends g p) i 0 + 2 ^ p) 0 n) k
+
+        go : getD (sends g p) j 0 ≤ get s (mask j) → (h : Grant ℕ) → Winner B s p h → getD (joined p h (sends g p)) j 0 ≤ get s (mask j)
+        go k nobody w = k
+        go k bestEffort w = k
+        go k (onTime i) w = one k i w (ℕ-discrete j i)
+        go k (early i) w = one k i w (ℕ-discrete j i)
 
     -- After step 3 the masks are what is left, and nothing else has changed.
     pub sentBy-masked : length s ≡ stateLength → (p : ℕ) → p ≤ 5 → sentBy B g p s ≡ masked B L (portsLeft B s (sends g p)) s 256

@@ -1,10 +1,10 @@
 -- Steps 3 to 5 slot by slot, in one pass. Assumes nothing.
-use Prim.Native.Nat.{ℕ, zero, suc, _-_}
+use Prim.Native.Nat.{ℕ, zero, suc, _+_, _-_}
 use mathlib.Core.Bool.{Bool, cond, _&&_}
 use mathlib.Core.List.{List}
 use lib.ListN.{getD}
 use lib.Dec.{eqb}
-use Rattle.rules.specs.Indices.{count}
+use Rattle.rules.specs.Indices.{count, counted}
 use Rattle.rules.specs.Areas.{has}
 use Rattle.rules.specs.Board.{Board, deadline, mask}
 use Rattle.rules.specs.SoundKept.{occupied}
@@ -24,6 +24,10 @@ module _ (B : Board) where
   -- Steps 3 to 5 for slot i of the state s at the clock reading t; the ports in the mask x have sent it.
   abbrev pub slotAfter : List ℕ → ℕ → ℕ → ℕ → List ℕ
   slotAfter s t i x = settleSlot i (occupied B s i) (cond (eqb (get s (deadline i)) t) 0 (get s (mask i) - x)) s
+
+  -- Port p's count with that slot, where c has the counts before: one more where the port is left and the slot is due.
+  abbrev pub slotCount : List ℕ → ℕ → ℕ → ℕ → List ℕ → ℕ → ℕ
+  slotCount s t i x c p = getD c p 0 + counted (has (get s (mask i) - x) p && eqb (get s (deadline i)) t)
 
   -- The mask that step 4 leaves of slot i.
   abbrev pub maskLeft : List ℕ → List ℕ → ℕ → ℕ
