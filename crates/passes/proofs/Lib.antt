@@ -6,3 +6,4 @@ pub mod SlotMasks
 pub mod GivingBack
 pub mod Sends
 pub mod Settling
+pub mod Steps
