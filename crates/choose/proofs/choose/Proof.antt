@@ -1,8 +1,8 @@
--- `choose::choose` meets its contract: at each return a law of `Choice` says what a rank with these tests grants. Assumes nothing.
-use Rattle.choose.proofs.Choice.{choose-due, choose-waiting, choose-none, choose-early, choose-far}
-use Rattle.choose.proofs.Ranking.{due-small, early-small}
-use Rattle.choose.specs.Ranks.{best}
-use Rattle.rules.specs.Tick.{grant}
+-- `choose::choose` meets its contract: at each return a law of `Ranks` says what a rank with these tests grants; a turn of the clock is 256. Assumes nothing.
+use Rattle.passes.proofs.Ranks.{grants-on-time, grants-best-effort, grants-nobody, grants-early, grants-idle}
+use Rattle.rules.specs.Areas.{low, bits}
+use Rattle.rules.specs.Board8.{board8}
+use mathlib.Core.Path.{sym, _∙_}
 use native.Mathlib.Omega.{arith}
 use borrow.Author.Needs.{needs}
 use Rattle.choose.proofs.choose.Statement.{statement}
@@ -12,19 +12,22 @@ cast-if4 : tie.Need-cast-if4
 cast-if4 c = search needs
 
 returns : tie.Need-returns
-unfolding grant best
-returns c = choose-due _ _ _ _ (c .before .before .pre .1) (due-small _ _ 256) (early-small _ _ 256) _ (omega arith)
+unfolding bits low
+returns c = grants-on-time board8 _ _ _ _ (c .before .before .pre .1) (omega arith)
 
 has-port-requires : tie.Need-has-port-requires
 has-port-requires c κs = search needs
 
 returns-2 : tie.Need-returns-2
-unfolding grant best
-returns-2 c = rw (← c .before .has-port .ensures, c .if2 .taken) (choose-waiting _ _ _ _ (c .before .before .before .before .pre .1) (due-small _ _ 256) (early-small _ _ 256) (omega arith))
+unfolding bits low
+returns-2 c = let c₄ = c .before .before .before .before in
+    grants-best-effort board8 _ _ _ _ (c₄ .pre .1) (omega arith) (sym (c .before .has-port .ensures) ∙ c .if2 .taken)
 
 returns-3 : tie.Need-returns-3
-unfolding grant best
-returns-3 c = rw (← c .before .before .has-port .ensures, c .before .if2 .left) (choose-none _ _ _ _ (c .before .before .before .before .before .pre .1) (due-small _ _ 256) (early-small _ _ 256) (omega arith) (omega arith))
+unfolding bits low
+returns-3 c = let c₁ = c .before in
+    let c₅ = c₁ .before .before .before .before in
+    grants-nobody board8 _ _ _ _ (c₅ .pre .1) (omega arith) (sym (c₁ .before .has-port .ensures) ∙ c₁ .if2 .left) (omega arith)
 
 sub-if4 : tie.Need-sub-if4
 sub-if4 c = search needs
@@ -36,18 +39,18 @@ cast-if4-2 : tie.Need-cast-if4-2
 cast-if4-2 c = search needs
 
 returns-4 : tie.Need-returns-4
-unfolding grant best
+unfolding bits low
 returns-4 c = let c₃ = c .before .before .before in
     let c₄ = c₃ .before in
     let c₇ = c₄ .before .before .before in
-    rw (← c₄ .has-port .ensures, c₃ .if2 .left, ← c .before .get .ensures) (choose-early _ _ _ _ (c₇ .pre .1) (due-small _ _ 256) (early-small _ _ 256) (omega arith) (omega arith) (omega arith))
+    grants-early board8 _ _ _ _ (c₇ .pre .1) (omega arith) (sym (c₄ .has-port .ensures) ∙ c₃ .if2 .left) (omega arith) _ (c .before .get .ensures) (omega arith)
 
 returns-5 : tie.Need-returns-5
-unfolding grant best
+unfolding bits low
 returns-5 c = let c₃ = c .before .before .before in
     let c₄ = c₃ .before in
     let c₇ = c₄ .before .before .before in
-    rw (← c₄ .has-port .ensures, c₃ .if2 .left, ← c .before .get .ensures) (choose-far _ _ _ _ (c₇ .pre .1) (due-small _ _ 256) (early-small _ _ 256) (omega arith) (omega arith) (omega arith))
+    grants-idle board8 _ _ _ _ (c₇ .pre .1) (omega arith) (sym (c₄ .has-port .ensures) ∙ c₃ .if2 .left) (omega arith) _ (c .before .get .ensures) (omega arith)
 
 pub choose-spec : {M : Type 1} → statement M
 choose-spec =
