@@ -35,9 +35,13 @@ module _ (B : Board) (L : Laws B) where
     free-giveBack : get (giveBack B i s) free ≡ get s free + 1
     free-giveBack = L .get-put (put s (idle (get s free)) i) free (get s free + 1) free entry-sized (omega arith) (omega arith)
 
-    -- Emptying a mask leaves the free count.
-    pub free-mask : (j v : ℕ) → j < 256 → get (put s (mask j) v) free ≡ get s free
+    -- A mask stored leaves the free count.
+    free-mask : (j v : ℕ) → j < 256 → get (put s (mask j) v) free ≡ get s free
     free-mask j v h = L .get-put s (mask j) v free sized h (omega arith)
+
+    -- So n, read once slot i is emptied, is the free count before.
+    pub free-emptied : i < 256 → (s′ : List ℕ) → s′ ≡ put s (mask i) 0 → (n : ℕ) → n ≡ get s′ free → n ≡ get s free
+    free-emptied h s′ e n q = q ∙ rw e (free-mask i 0 h)
 
     module _ (room : get s free < 256) where
       get-giveBack : (g : Field) → Valid g → sameKind Free (g .0) ≡ false → sameKind Idle (g .0) ≡ false → get (giveBack B i s) g ≡ get s g

@@ -95,7 +95,7 @@ module _ (m : ℕ) (hm : m < 32) (n : m ≢ 0) where
   pub lowest-port : lowest < 5
   lowest-port = ltb-true lowest 5 (and-left (ltb lowest 5) (has m lowest) front)
 
-  pub has-lowest : has m lowest ≡ true
+  has-lowest : has m lowest ≡ true
   has-lowest = and-right (ltb lowest 5) (has m lowest) front
 
   without-lowest : bitAnd m (m - 1) ≡ without m lowest
@@ -110,6 +110,14 @@ module _ (m : ℕ) (hm : m < 32) (n : m ≢ 0) where
       go : Dec (p ≡ lowest) → changed h (without m lowest) (set l lowest x) p ≡ changed h m l p
       go (yes k) = rw (k, has-without-same m lowest (omega arith) lowest-port, has-lowest) (getD-set-same l lowest x 0 (omega (arith, lowest-port)) ∙ q)
       go (no k) = rw (has-without-other m lowest p (omega arith) lowest-port hp k, getD-set-other l lowest p x 0 k)
+
+  -- A port that is still left to count has what it had at first, in l₀, at most.
+  pub lowest-uncounted : (l l₀ : List ℕ) (m₀ : ℕ) → changed (λ n. n + 1) m l lowest ≡ changed (λ n. n + 1) m₀ l₀ lowest → getD l lowest 0 ≤ getD l₀ lowest 0
+  lowest-uncounted l l₀ m₀ e = go (has m₀ lowest) (rw has-lowest at e)
+    where
+      go : (t : Bool) → getD l lowest 0 + 1 ≡ cond t (getD l₀ lowest 0 + 1) (getD l₀ lowest 0) → getD l lowest 0 ≤ getD l₀ lowest 0
+      go true q = omega arith
+      go false q = omega arith
 
 -- No port is left.
 pub changed-none : (h : ℕ → ℕ) (m : ℕ) (l : List ℕ) → m ≡ 0 → (p : ℕ) → p < 5 → getD l p 0 ≡ changed h m l p

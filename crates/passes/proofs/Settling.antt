@@ -153,10 +153,6 @@ module _ (B : Board) (L : Laws B) where
   -- ---- the counts
 
   module _ (s l : List ℕ) where
-    pub missed-start : (c : List ℕ) → length c ≡ 5 → ((p : ℕ) → p < 5 → getD c p 0 ≡ 0) → EachPort (missed B s l 0) c
-    unfolding count
-    missed-start c e z = record { five = e; each = z }
-
     -- They are at most the slots passed.
     pub missed-few : (k : ℕ) → k ≤ 256 → (c : List ℕ) → EachPort (missed B s l k) c → (p : ℕ) → p < 5 → getD c p 0 ≤ 256
     missed-few k h c E p hp = omega (arith, E .each p hp, count-at-most (λ j. has (portsLeft B s l j) p && isDue B s j) k)

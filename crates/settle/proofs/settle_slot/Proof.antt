@@ -1,5 +1,9 @@
--- `settle::settle_slot` meets its contract: at each return a law of `Settling` says what these tests and stores make. Assumes nothing.
-use Rattle.settle.proofs.Settling.{slot-waits, slot-empty, slot-due, slot-sent, slot-left}
+-- `settle::settle_slot` meets its contract: at each return two laws of `Settling` say what these tests and stores make of the counts and of the state.
+-- Assumes nothing.
+use Rattle.passes.proofs.Settling.{slot-waits, slot-empty, slot-due, slot-sent, slot-left, counts-waiting, counts-empty, counts-due}
+use Rattle.rules.specs.Board8.{board8}
+use Rattle.rules.proofs.Board8Laws.{lawful8}
+use native.Mathlib.Omega.{arith}
 use mathlib.Core.Path.{sym, _∙_}
 use borrow.Author.Needs.{needs}
 use Rattle.settle.proofs.settle_slot.Statement.{statement}
@@ -12,7 +16,11 @@ same-length : tie.Need-same-length
 same-length c = search needs
 
 returns : tie.Need-returns
-returns c = slot-waits _ _ _ _ _ (c .before .before .before .before .if1 .taken) (λ e. c .if2 .taken (c .before .before .get .ensures ∙ e))
+returns c = let p = c .before .before .before .before .before .before .pre in
+    let g = c .before .before .get .ensures in (
+      counts-waiting board8 lawful8 _ _ _ _ _ (p .1 .0) (λ e. c .if2 .taken (g ∙ e)),
+      slot-waits board8 lawful8 _ _ _ _ (omega arith) (c .before .before .before .before .if1 .taken) (λ e. c .if2 .taken (g ∙ e)),
+    )
 
 get-requires-2 : tie.Need-get-requires-2
 get-requires-2 c κs = search needs
@@ -21,7 +29,9 @@ same-length-2 : tie.Need-same-length-2
 same-length-2 c = search needs
 
 returns-2 : tie.Need-returns-2
-returns-2 c = slot-empty _ _ _ _ _ _ (c .before .get2 .ensures) (c .if3 .taken)
+returns-2 c = let m = c .before .get2 .ensures in
+    let p = c .before .before .before .before .before .pre in
+    (counts-empty board8 lawful8 _ _ _ _ _ (p .1 .0) (sym m ∙ c .if3 .taken), slot-empty board8 lawful8 _ _ _ _ _ (omega arith) m (c .if3 .taken))
 
 sub-left : tie.Need-sub-left
 sub-left c = search needs
@@ -39,11 +49,16 @@ same-length-3 : tie.Need-same-length-3
 same-length-3 c = search needs
 
 returns-3 : tie.Need-returns-3
-returns-3 c = let c₃ = c .before .before .before in
-    let c₅ = c₃ .before .before in
-    let c₇ = c₅ .before .before in
-    let c₉ = c₇ .before .before in
-    slot-due _ _ _ _ _ _ (c₉ .before .get2 .ensures) (c₉ .if3 .left) _ _ (sym (c₇ .get3 .ensures) ∙ c₅ .if4 .taken) (c₃ .give-back .ensures) (c .withdraw .ensures)
+returns-3 c = let c₄ = c .before .before .before .before in
+    let c₆ = c₄ .before .before in
+    let c₈ = c₆ .before .before in
+    let c₁₀ = c₈ .before .before in
+    let c₁₅ = c₁₀ .before .before .before .before .before in
+    let m = c₁₀ .before .get2 .ensures in
+    let d = sym (c₈ .get3 .ensures) ∙ c₆ .if4 .taken in (
+      counts-due board8 lawful8 _ _ _ _ (c₁₅ .args .counts .now) (c₁₅ .pre .1 .0) d _ m _ (c .withdraw .ensures),
+      slot-due board8 lawful8 _ _ _ _ _ (omega (arith, c₁₅ .good)) m (c₁₀ .if3 .left) _ d (c₄ .give-back .ensures),
+    )
 
 give-back-requires-2 : tie.Need-give-back-requires-2
 give-back-requires-2 c κs = search needs
@@ -57,7 +72,12 @@ returns-4 c = let c₂ = c .before .before in
     let c₅ = c₄ .before in
     let c₇ = c₅ .before .before in
     let c₉ = c₇ .before .before in
-    slot-sent _ _ _ _ _ _ (c₉ .before .get2 .ensures) (c₉ .if3 .left) (λ e. c₅ .if4 .left (c₇ .get3 .ensures ∙ e)) _ (c₄ .if5 .taken) (c₂ .give-back2 .ensures)
+    let c₁₄ = c₉ .before .before .before .before .before in
+    let n = c₅ .if4 .left in
+    let g = c₇ .get3 .ensures in (
+      counts-waiting board8 lawful8 _ _ _ _ _ (c₁₄ .pre .1 .0) (λ e. n (g ∙ e)),
+      slot-sent board8 lawful8 _ _ _ _ _ (omega (arith, c₁₄ .good)) (c₉ .before .get2 .ensures) (c₉ .if3 .left) (λ e. n (g ∙ e)) _ (c₄ .if5 .taken) (c₂ .give-back2 .ensures),
+    )
 
 put-requires : tie.Need-put-requires
 put-requires c κs = search needs
@@ -71,7 +91,12 @@ returns-5 c = let c₂ = c .before .before in
     let c₅ = c₄ .before in
     let c₇ = c₅ .before .before in
     let c₉ = c₇ .before .before in
-    slot-left _ _ _ _ _ _ (c₉ .before .get2 .ensures) (c₉ .if3 .left) (λ e. c₅ .if4 .left (c₇ .get3 .ensures ∙ e)) _ (c₄ .if5 .left) (c₂ .put .ensures)
+    let c₁₄ = c₉ .before .before .before .before .before in
+    let n = c₅ .if4 .left in
+    let g = c₇ .get3 .ensures in (
+      counts-waiting board8 lawful8 _ _ _ _ _ (c₁₄ .pre .1 .0) (λ e. n (g ∙ e)),
+      slot-left board8 lawful8 _ _ _ _ _ (omega (arith, c₁₄ .good)) (c₉ .before .get2 .ensures) (c₉ .if3 .left) (λ e. n (g ∙ e)) _ (c₄ .if5 .left) (c₂ .put .ensures),
+    )
 
 pub settle-slot-spec : {M : Type 1} → statement M
 settle-slot-spec =
