@@ -1,5 +1,6 @@
 // Step 2 of a tick: one pass over the slots finds the winners of the five ports.
 ghost use mathlib.Core.Path.{_≡_};
+ghost use mathlib.Core.Bool.{cond};
 ghost use Prim.Native.Nat.{suc, _<_};
 ghost use lib.ListN.{length};
 ghost use Rattle.rules.specs.Board.{clock};
@@ -100,6 +101,13 @@ fn scan(state: &[u8], end: usize) -> [u32; Router::PORTS]
     bests
 }
 
+// A port sends the ranks below this: the on-time ones and, where best-effort doesn't wait, those of early slots within the horizon, which are below `ahead`.
+fn bound(waits: bool, ahead: u32) -> u32
+    ensures { λ r. ⌜ r ≡ cond waits 65536 ahead ⌝ }
+{
+    if waits { EARLY } else { ahead }
+}
+
 // Who has a port, by its least rank.
 fn choose(state: &[u8], waiting: u8, port: u8, best: u32) -> Grant
     requires { ⌜ (port < 5) × (best ≡ Ranks.best board8 (now state) 256 port) ⌝ }
@@ -109,14 +117,13 @@ fn choose(state: &[u8], waiting: u8, port: u8, best: u32) -> Grant
     if best < EARLY {
         return Grant::OnTime(slot);
     }
-    if layout::has_port(waiting, port) {
-        return Grant::BestEffort;
-    }
-    if NONE <= best {
-        return Grant::Nobody;
-    }
-    if best / 256 - 256 <= layout::get(state, Field::Horizon(port)) as u32 {
+    let waits = layout::has_port(waiting, port);
+    let horizon = layout::get(state, Field::Horizon(port));
+    if best < bound(waits, EARLY + (horizon as u32 + 1) * 256) {
         return Grant::Early(slot);
+    }
+    if waits {
+        return Grant::BestEffort;
     }
     Grant::Nobody
 }
@@ -130,7 +137,8 @@ pub fn grants(state: &[u8], end: usize, waiting: u8) -> [Grant; Router::PORTS]
     let mut grants = [Grant::Nobody; Router::PORTS];
     let mut p: usize = 0;
     while p < Router::PORTS {
-        grants[p] = choose(state, waiting, p as u8, bests[p]);
+        let g = choose(state, waiting, p as u8, bests[p]);
+        grants[p] = g;
         p += 1;
     }
     grants

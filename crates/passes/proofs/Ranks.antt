@@ -1,11 +1,11 @@
 -- One minimum finds the winner: of two slots the lower rank is the one that the comparator puts first, or of equal keys the lower slot's, so that the least rank
 -- is that of the least key; and it says whom the port is granted. Assumes nothing.
-use Prim.Native.Nat.{ℕ, suc, _+_, _-_, _*_, _/_, _%_, _^_, _<_, _≤_}
+use Prim.Native.Nat.{ℕ, suc, _+_, _*_, _%_, _^_, _<_, _≤_}
 use mathlib.Core.Path.{_≡_, refl, sym, ap, subst, _∙_}
 use mathlib.Core.Bool.{Bool, true, false, cond, not}
 use mathlib.Core.List.{List}
 use mathlib.Core.Option.{Option, none, some}
-use native.Mathlib.Decide.{decLt}
+use native.Mathlib.Decide.{decLt, decLe}
 use native.Mathlib.Omega.{arith}
 use lib.Dec.{leb, ltb}
 use lib.ListN.{replicate, getD-replicate}
@@ -21,7 +21,7 @@ use Rattle.rules.proofs.ClockLaws.{minus-lt}
 use Rattle.rules.proofs.IndexLaws.{least-in}
 use Rattle.rules.proofs.Masks.{has-zero}
 use Rattle.passes.specs.Ports.{EachPort, changed}
-use Rattle.passes.specs.Ranks.{lesser, rank, rankOf, chosen, slotRank, best}
+use Rattle.passes.specs.Ranks.{lesser, rank, rankOf, bound, chosen, slotRank, best}
 use Rattle.passes.proofs.MaskPorts.{has-low}
 
 -- ---- ranks and the comparator
@@ -65,23 +65,27 @@ module _ (turn : ℕ) where
       go true = refl
       go false = refl
 
-  -- What the least rank says, the least key says.
-  chosen-granted : (v : Option (ℕ × Key ℕ)) → Small 256 v → (b : Bool) (h : ℕ) → chosen turn (rankOf turn v) b h ≡ granted v b h
+  -- What the least rank says, the least key says: an early rank is below the bound exactly if its key is at most the horizon.
+  chosen-granted : (v : Option (ℕ × Key ℕ)) → Small 256 v → (b : Bool) (h : ℕ) → (turn * 256 ≤ rankOf turn v → h < turn) → chosen turn (rankOf turn v) b h ≡ granted v b h
   unfolding rankOf granted
-  chosen-granted none s b h = rw (le-ltb (2 * turn * 256) (turn * 256) (omega arith), le-leb (2 * turn * 256) (2 * turn * 256) (omega arith))
-  chosen-granted (some (i, k)) s b h = go (k .early)
+  chosen-granted none s b h l = rw (le-ltb (2 * turn * 256) (turn * 256) (omega arith), le-ltb (2 * turn * 256) (bound turn b h) (above b))
+    where
+      above : (b : Bool) → bound turn b h ≤ 2 * turn * 256
+      above true = omega arith
+      above false = let m = l (omega arith) in omega arith
+  chosen-granted (some (i, k)) s b h l = go (k .early)
     where
       x : ℕ
       x = k .key
 
-      far : (r : ℕ) → r ≡ turn * 256 + x * 256 + i → cond (leb (r / 256 - turn) h) (early (r % 256)) nobody ≡ cond (leb x h) (early i) nobody
-      far r e = let p : r / 256 - turn ≡ x = omega arith in let q : r % 256 ≡ i = omega arith in rw (p, q)
+      far : (b : Bool) → Dec (x ≤ h) → (r : ℕ) → r ≡ turn * 256 + x * 256 + i → cond (ltb r (bound turn b h)) (early (r % 256)) (cond b bestEffort nobody) ≡ cond b bestEffort (cond (leb x h) (early i) nobody)
+      far true d r e = rw (le-ltb r (turn * 256) (omega arith))
+      far false (yes m) r e = rw (lt-ltb r (turn * 256 + (h + 1) * 256) (omega arith), le-leb x h m) (ap early (omega arith))
+      far false (no m) r e = rw (le-ltb r (turn * 256 + (h + 1) * 256) (omega arith), lt-leb x h (omega arith))
 
       go : (a : Bool) → chosen turn (cond a (turn * 256) 0 + x * 256 + i) b h ≡ cond a (cond b bestEffort (cond (leb x h) (early i) nobody)) (onTime i)
       go false = rw (lt-ltb (0 + x * 256 + i) (turn * 256) (omega arith)) (ap onTime (omega arith))
-      go true =
-          rw (le-ltb (turn * 256 + x * 256 + i) (turn * 256) (omega arith), lt-leb (2 * turn * 256) (turn * 256 + x * 256 + i) (omega arith))
-          (ap (cond b bestEffort) (far (turn * 256 + x * 256 + i) refl))
+      go true = rw (le-ltb (turn * 256 + x * 256 + i) (turn * 256) (omega arith)) (far b (decLe x h) (turn * 256 + x * 256 + i) refl)
 
 module _ (B : Board) where
   open Board B using (clockBytes as c, get)
@@ -150,28 +154,26 @@ module _ (B : Board) where
 
   -- ---- whom the least rank grants the port, by the tests of the code
 
-  module _ (s : List ℕ) (waiting p r : ℕ) (er : r ≡ best B s 256 p) where
+  module _ (s : List ℕ) (waiting p r h : ℕ) (er : r ≡ best B s 256 p) (eh : h ≡ get s (horizon p)) (small : turn * 256 ≤ r → h < turn) where
     abbrev Grants : Grant ℕ → Type 0
     Grants g = g ≡ grant B s waiting p
 
-    chosen-grant : Grants (chosen turn r (has waiting p) (get s (horizon p)))
+    chosen-grant : Grants (chosen turn r (has waiting p) h)
     unfolding grant best
-    chosen-grant = rw er (chosen-granted turn (least (comparator ltb) (candidate B s p) 256) (least-small s p 256) (has waiting p) (get s (horizon p)))
+    chosen-grant = rw (er, ← eh) (chosen-granted turn (least (comparator ltb) (candidate B s p) 256) (least-small s p 256) (has waiting p) h (rw er at small))
 
     pub grants-on-time : r < turn * 256 → Grants (onTime (r % 256))
     grants-on-time l = rw (lt-ltb r (turn * 256) l) at chosen-grant
 
-    module _ (l : turn * 256 ≤ r) where
-      pub grants-best-effort : has waiting p ≡ true → Grants bestEffort
-      grants-best-effort w = rw (le-ltb r (turn * 256) l, w) at chosen-grant
+    module _ (l : turn * 256 ≤ r) (b : Bool) (w : b ≡ has waiting p) (m : ℕ) (em : m ≡ bound turn b h) where
+      beyond : Grants (cond (ltb r m) (early (r % 256)) (cond b bestEffort nobody))
+      beyond = rw (le-ltb r (turn * 256) l, ← w, ← em) at chosen-grant
 
-      module _ (w : has waiting p ≡ false) where
-        pub grants-nobody : 2 * turn * 256 ≤ r → Grants nobody
-        grants-nobody n = rw (le-ltb r (turn * 256) l, w, le-leb (2 * turn * 256) r n) at chosen-grant
+      pub grants-early : r < m → Grants (early (r % 256))
+      grants-early n = rw (lt-ltb r m n) at beyond
 
-        module _ (n : r < 2 * turn * 256) (h : ℕ) (eh : h ≡ get s (horizon p)) where
-          pub grants-early : r / 256 - turn ≤ h → Grants (early (r % 256))
-          grants-early k = rw (le-ltb r (turn * 256) l, w, lt-leb (2 * turn * 256) r n, ← eh, le-leb (r / 256 - turn) h k) at chosen-grant
+      pub grants-best-effort : m ≤ r → b ≡ true → Grants bestEffort
+      grants-best-effort n e = rw (le-ltb r m n, e) at beyond
 
-          pub grants-idle : h < r / 256 - turn → Grants nobody
-          grants-idle k = rw (le-ltb r (turn * 256) l, w, lt-leb (2 * turn * 256) r n, ← eh, lt-leb (r / 256 - turn) h k) at chosen-grant
+      pub grants-nobody : m ≤ r → b ≡ false → Grants nobody
+      grants-nobody n e = rw (le-ltb r m n, e) at beyond
