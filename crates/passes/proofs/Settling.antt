@@ -29,65 +29,67 @@ module _ (B : Board) (L : Laws B) where
 
   -- ---- a slot's steps, by the tests of the code
 
-  -- The state s, and slot i of it with the mask m; the ports in x have sent it, and t is the clock reading.
-  module _ (s : List ℕ) (i t x m : ℕ) (h : i < 256) (em : m ≡ get s (mask i)) where
-    -- A mask stored as it is leaves the state.
-    put-mask : (v : ℕ) → v ≡ get s (mask i) → put s (mask i) v ≡ s
-    put-mask v e = rw e (L .put-own s (mask i) h refl)
+  -- A mask stored as it is leaves the state.
+  put-mask : (s : List ℕ) (i : ℕ) → i < 256 → (v : ℕ) → v ≡ get s (mask i) → put s (mask i) v ≡ s
+  put-mask s i h v e = rw e (L .put-own s (mask i) h refl)
 
-    -- An empty slot.
-    pub slot-empty : m ≡ 0 → s ≡ slotAfter B s t i x
-    slot-empty z = let e : get s (mask i) ≡ 0 = sym em ∙ z in rw (eq-eqb (get s (mask i)) 0 e) (sym (put-mask _ (zero-left (eqb (get s (deadline i)) t) e)))
-      where
-        zero-left : (d : Bool) → get s (mask i) ≡ 0 → cond d 0 (get s (mask i) - x) ≡ get s (mask i)
-        zero-left true e = sym e
-        zero-left false e = omega arith
+  -- An empty slot.
+  pub slot-empty : (s : List ℕ) (i t x : ℕ) → i < 256 → get s (mask i) ≡ 0 → s ≡ slotAfter B s t i x
+  slot-empty s i t x h e = rw (eq-eqb (get s (mask i)) 0 e) (sym (put-mask s i h _ (left (eqb (get s (deadline i)) t))))
+    where
+      left : (d : Bool) → cond d 0 (get s (mask i) - x) ≡ get s (mask i)
+      left true = sym e
+      left false = omega arith
 
+  -- The slot i of the state s with the mask m and the deadline v; the ports in x have sent it, and t is the clock reading.
+  module _ (s : List ℕ) (i t x m v : ℕ) (em : m ≡ get s (mask i)) (ev : v ≡ get s (deadline i)) where
     module _ (n : m ≢ 0) where
       is-occupied : eqb (get s (mask i)) 0 ≡ false
       is-occupied = ne-eqb (get s (mask i)) 0 (λ e. n (em ∙ e))
 
-      -- A slot that is due is emptied.
-      pub slot-due : (r : List ℕ) → get s (deadline i) ≡ t → r ≡ giveBack B i (put s (mask i) 0) → r ≡ slotAfter B s t i x
-      slot-due r q e = rw (is-occupied, eq-eqb (get s (deadline i)) t q) e
+      -- If it is due, it is emptied.
+      pub slot-due : eqb v t ≡ true → (r : List ℕ) → r ≡ giveBack B i (put s (mask i) 0) → r ≡ slotAfter B s t i x
+      slot-due d r e = rw (is-occupied, ← ev, d) e
 
-      module _ (d : get s (deadline i) ≢ t) where
-        -- So is one that all its ports have sent.
-        pub slot-sent : (r : List ℕ) → m - x ≡ 0 → r ≡ giveBack B i (put s (mask i) 0) → r ≡ slotAfter B s t i x
-        slot-sent r z e = rw (is-occupied, ne-eqb (get s (deadline i)) t d, ← em, z) e
+      module _ (d : eqb v t ≡ false) where
+        -- Also if all its ports have sent it.
+        pub slot-sent : m - x ≡ 0 → (r : List ℕ) → r ≡ giveBack B i (put s (mask i) 0) → r ≡ slotAfter B s t i x
+        slot-sent z r e = rw (is-occupied, ← ev, d, ← em, z) e
 
-        -- Any other keeps the ports left.
-        pub slot-left : (r : List ℕ) → m - x ≢ 0 → r ≡ put s (mask i) (m - x) → r ≡ slotAfter B s t i x
-        slot-left r z e = rw (is-occupied, ne-eqb (get s (deadline i)) t d, ← em, ne-eqb (m - x) 0 z) e
+        -- Else it keeps the ports left.
+        pub slot-left : m - x ≢ 0 → (r : List ℕ) → r ≡ put s (mask i) (m - x) → r ≡ slotAfter B s t i x
+        slot-left z r e = rw (is-occupied, ← ev, d, ← em, ne-eqb (m - x) 0 z) e
 
   -- A slot that no port sends and that isn't due stays as it is.
-  pub slot-waits : (s : List ℕ) (i t x : ℕ) → i < 256 → x ≡ 0 → get s (deadline i) ≢ t → s ≡ slotAfter B s t i x
-  slot-waits s i t x h z d = go (ℕ-discrete (get s (mask i)) 0)
+  pub slot-waits : (s : List ℕ) (i t x v : ℕ) → i < 256 → v ≡ get s (deadline i) → eqb v t ≡ false → x ≡ 0 → s ≡ slotAfter B s t i x
+  slot-waits s i t x v h ev d z = go (ℕ-discrete (get s (mask i)) 0)
     where
       go : Dec (get s (mask i) ≡ 0) → s ≡ slotAfter B s t i x
-      go (yes e) = slot-empty s i t x (get s (mask i)) h refl e
-      go (no n) = slot-left s i t x (get s (mask i)) h refl n d s (λ q. n (omega arith)) (sym (put-mask s i t x (get s (mask i)) h refl (get s (mask i) - x) (omega arith)))
+      go (yes e) = slot-empty s i t x h e
+      go (no n) = slot-left s i t x (get s (mask i)) v refl ev n d (λ q. n (omega arith)) s (sym (put-mask s i h (get s (mask i) - x) (omega arith)))
 
   -- ---- a slot's counts, by the tests of the code
 
   module _ (s : List ℕ) (i t x : ℕ) (l : List ℕ) (five : length l ≡ 5) where
-    -- One that isn't due counts nothing, nor does an empty one.
-    pub counts-waiting : get s (deadline i) ≢ t → EachPort (slotCount B s t i x l) l
-    unfolding counted
-    counts-waiting d = record { five = five; each = λ p h. rw (ne-eqb (get s (deadline i)) t d, and-false (has (get s (mask i) - x) p)) (omega arith) }
-
+    -- An empty slot counts nothing.
     pub counts-empty : get s (mask i) ≡ 0 → EachPort (slotCount B s t i x l) l
     unfolding counted
     counts-empty e = record { five = five; each = λ p h. let z : get s (mask i) - x ≡ 0 = omega arith in rw (z, has-zero p h) (omega arith) }
 
-    -- One that is due counts one for each port left, of which the code tests the five low bits.
-    pub counts-due : get s (deadline i) ≡ t → (m : ℕ) → m ≡ get s (mask i) → (l′ : List ℕ) → EachPort (changed (λ n. n + 1) ((m - x) % 32) l) l′ → EachPort (slotCount B s t i x l) l′
-    unfolding counted
-    counts-due d m em l′ E = record { five = E .five; each = λ p h. E .each p h ∙ rw (has-low (m - x) p h, eq-eqb (get s (deadline i)) t d, ← em) (go p (has (m - x) p)) }
-      where
-        go : (p : ℕ) (b : Bool) → cond b (getD l p 0 + 1) (getD l p 0) ≡ getD l p 0 + cond (b && true) 1 0
-        go p true = refl
-        go p false = omega arith
+    module _ (v : ℕ) (ev : v ≡ get s (deadline i)) where
+      -- Nor does one that isn't due.
+      pub counts-waiting : eqb v t ≡ false → EachPort (slotCount B s t i x l) l
+      unfolding counted
+      counts-waiting d = record { five = five; each = λ p h. rw (← ev, d, and-false (has (get s (mask i) - x) p)) (omega arith) }
+
+      -- One that is counts one for each port left, of which the code tests the five low bits.
+      pub counts-due : eqb v t ≡ true → (m : ℕ) → m ≡ get s (mask i) → (l′ : List ℕ) → EachPort (changed (λ n. n + 1) ((m - x) % 32) l) l′ → EachPort (slotCount B s t i x l) l′
+      unfolding counted
+      counts-due d m em l′ E = record { five = E .five; each = λ p h. E .each p h ∙ rw (has-low (m - x) p h, ← ev, d, ← em) (go p (has (m - x) p)) }
+        where
+          go : (p : ℕ) (b : Bool) → cond b (getD l p 0 + 1) (getD l p 0) ≡ getD l p 0 + cond (b && true) 1 0
+          go p true = refl
+          go p false = omega arith
 
   -- ---- the pass
 
@@ -136,7 +138,7 @@ module _ (B : Board) (L : Laws B) where
     pub settled-empty : (k : ℕ) → k < 256 → get s (mask k) ≡ 0 → settled B s l k ≡ settled B s l (suc k)
     unfolding settled
     settled-empty k h z =
-        slot-empty (settled B s l k) k (get s clock) (getD l k 0) (get s (mask k)) h (sym (settled-keeps-mask k h)) z
+        slot-empty (settled B s l k) k (get s clock) (getD l k 0) h (settled-keeps-mask k h ∙ z)
         ∙ rw (settled-keeps-mask k h, settled-keeps-deadline k h)
 
     -- ---- one turn of the loop

@@ -3,8 +3,9 @@
 use Rattle.passes.proofs.Settling.{slot-waits, slot-empty, slot-due, slot-sent, slot-left, counts-waiting, counts-empty, counts-due}
 use Rattle.rules.specs.Board8.{board8}
 use Rattle.rules.proofs.Board8Laws.{lawful8}
-use native.Mathlib.Omega.{arith}
 use mathlib.Core.Path.{sym, _∙_}
+use native.Mathlib.Omega.{arith}
+use borrow.Author.Tests.{not-true}
 use borrow.Author.Needs.{needs}
 use Rattle.settle.proofs.settle_slot.Statement.{statement}
 use Rattle.settle.proofs.settle_slot.Tie as tie
@@ -16,11 +17,11 @@ same-length : tie.Need-same-length
 same-length c = search needs
 
 returns : tie.Need-returns
-returns c = let p = c .before .before .before .before .before .before .pre in
-    let g = c .before .before .get .ensures in (
-      counts-waiting board8 lawful8 _ _ _ _ _ (p .1 .0) (λ e. c .if2 .taken (g ∙ e)),
-      slot-waits board8 lawful8 _ _ _ _ (omega arith) (c .before .before .before .before .if1 .taken) (λ e. c .if2 .taken (g ∙ e)),
-    )
+returns c = let c₃ = c .before .before .before in
+    let c₆ = c₃ .before .before .before in
+    let v = c₃ .get .ensures in
+    let d = not-true _ (c .if2 .taken) in
+    (counts-waiting board8 lawful8 _ _ _ _ _ (c₆ .pre .1 .0) _ v d, slot-waits board8 lawful8 _ _ _ _ _ (omega arith) v d (c .before .if1 .taken))
 
 get-requires-2 : tie.Need-get-requires-2
 get-requires-2 c κs = search needs
@@ -29,15 +30,12 @@ same-length-2 : tie.Need-same-length-2
 same-length-2 c = search needs
 
 returns-2 : tie.Need-returns-2
-returns-2 c = let m = c .before .get2 .ensures in
-    let p = c .before .before .before .before .before .pre in
-    (counts-empty board8 lawful8 _ _ _ _ _ (p .1 .0) (sym m ∙ c .if3 .taken), slot-empty board8 lawful8 _ _ _ _ _ (omega arith) m (c .if3 .taken))
+returns-2 c = let m = sym (c .before .get2 .ensures) ∙ c .if3 .taken in
+    let c₈ = c .before .before .before .before .before .before .before .before in
+    (counts-empty board8 lawful8 _ _ _ _ _ (c₈ .pre .1 .0) m, slot-empty board8 lawful8 _ _ _ _ (omega arith) m)
 
 sub-left : tie.Need-sub-left
 sub-left c = search needs
-
-get-requires-3 : tie.Need-get-requires-3
-get-requires-3 c κs = search needs
 
 give-back-requires : tie.Need-give-back-requires
 give-back-requires c κs = search needs
@@ -51,13 +49,13 @@ same-length-3 c = search needs
 returns-3 : tie.Need-returns-3
 returns-3 c = let c₄ = c .before .before .before .before in
     let c₆ = c₄ .before .before in
-    let c₈ = c₆ .before .before in
-    let c₁₀ = c₈ .before .before in
-    let c₁₅ = c₁₀ .before .before .before .before .before in
-    let m = c₁₀ .before .get2 .ensures in
-    let d = sym (c₈ .get3 .ensures) ∙ c₆ .if4 .taken in (
-      counts-due board8 lawful8 _ _ _ _ (c₁₅ .args .counts .now) (c₁₅ .pre .1 .0) d _ m _ (c .withdraw .ensures),
-      slot-due board8 lawful8 _ _ _ _ _ (omega (arith, c₁₅ .good)) m (c₁₀ .if3 .left) _ d (c₄ .give-back .ensures),
+    let c₇ = c₆ .before in
+    let c₁₂ = c₇ .before .before .before .before .before in
+    let c₁₅ = c₁₂ .before .before .before in
+    let m = c₇ .before .get2 .ensures in
+    let v = c₁₂ .get .ensures in (
+      counts-due board8 lawful8 _ _ _ _ (c₁₅ .args .counts .now) (c₁₅ .pre .1 .0) _ v (c₆ .if4 .taken) _ m _ (c .withdraw .ensures),
+      slot-due board8 lawful8 _ _ _ _ _ _ m v (c₇ .if3 .left) (c₆ .if4 .taken) _ (c₄ .give-back .ensures),
     )
 
 give-back-requires-2 : tie.Need-give-back-requires-2
@@ -70,13 +68,11 @@ returns-4 : tie.Need-returns-4
 returns-4 c = let c₂ = c .before .before in
     let c₄ = c₂ .before .before in
     let c₅ = c₄ .before in
-    let c₇ = c₅ .before .before in
-    let c₉ = c₇ .before .before in
-    let c₁₄ = c₉ .before .before .before .before .before in
-    let n = c₅ .if4 .left in
-    let g = c₇ .get3 .ensures in (
-      counts-waiting board8 lawful8 _ _ _ _ _ (c₁₄ .pre .1 .0) (λ e. n (g ∙ e)),
-      slot-sent board8 lawful8 _ _ _ _ _ (omega (arith, c₁₄ .good)) (c₉ .before .get2 .ensures) (c₉ .if3 .left) (λ e. n (g ∙ e)) _ (c₄ .if5 .taken) (c₂ .give-back2 .ensures),
+    let c₆ = c₅ .before in
+    let c₁₁ = c₆ .before .before .before .before .before in
+    let v = c₁₁ .get .ensures in (
+      counts-waiting board8 lawful8 _ _ _ _ _ (c₁₁ .before .before .before .pre .1 .0) _ v (c₅ .if4 .left),
+      slot-sent board8 lawful8 _ _ _ _ _ _ (c₆ .before .get2 .ensures) v (c₆ .if3 .left) (c₅ .if4 .left) (c₄ .if5 .taken) _ (c₂ .give-back2 .ensures),
     )
 
 put-requires : tie.Need-put-requires
@@ -89,13 +85,11 @@ returns-5 : tie.Need-returns-5
 returns-5 c = let c₂ = c .before .before in
     let c₄ = c₂ .before .before in
     let c₅ = c₄ .before in
-    let c₇ = c₅ .before .before in
-    let c₉ = c₇ .before .before in
-    let c₁₄ = c₉ .before .before .before .before .before in
-    let n = c₅ .if4 .left in
-    let g = c₇ .get3 .ensures in (
-      counts-waiting board8 lawful8 _ _ _ _ _ (c₁₄ .pre .1 .0) (λ e. n (g ∙ e)),
-      slot-left board8 lawful8 _ _ _ _ _ (omega (arith, c₁₄ .good)) (c₉ .before .get2 .ensures) (c₉ .if3 .left) (λ e. n (g ∙ e)) _ (c₄ .if5 .left) (c₂ .put .ensures),
+    let c₆ = c₅ .before in
+    let c₁₁ = c₆ .before .before .before .before .before in
+    let v = c₁₁ .get .ensures in (
+      counts-waiting board8 lawful8 _ _ _ _ _ (c₁₁ .before .before .before .pre .1 .0) _ v (c₅ .if4 .left),
+      slot-left board8 lawful8 _ _ _ _ _ _ (c₆ .before .get2 .ensures) v (c₆ .if3 .left) (c₅ .if4 .left) (c₄ .if5 .left) _ (c₂ .put .ensures),
     )
 
 pub settle-slot-spec : {M : Type 1} → statement M
@@ -109,7 +103,6 @@ settle-slot-spec =
     same-length-2
     returns-2
     sub-left
-    get-requires-3
     give-back-requires
     withdraw-requires
     same-length-3
