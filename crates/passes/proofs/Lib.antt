@@ -7,3 +7,4 @@ pub mod GivingBack
 pub mod Sends
 pub mod Settling
 pub mod Steps
+pub mod Packets

@@ -69,6 +69,18 @@ has-without m p q hp hq n =
     sym (has-low (without m p) q hq) ∙ ap (λ (y : ℕ). has (y % 32) q) (without-low m p hp) ∙ ap (λ (y : ℕ). has y q) l
     ∙ has-low x q hq ∙ has-without-other (m % 32) p q (omega arith) hp hq n ∙ has-low m q hq
 
+-- A port's bit, as a byte shifts to it.
+pub bit-le : (p : ℕ) → p < 5 → 2 ^ p ≤ 16
+bit-le zero h = omega arith
+bit-le (suc zero) h = omega arith
+bit-le (suc (suc zero)) h = omega arith
+bit-le (suc (suc (suc zero))) h = omega arith
+bit-le (suc (suc (suc (suc zero)))) h = omega arith
+bit-le (suc (suc (suc (suc (suc p))))) h = absurd (omega arith)
+
+pub bit-shifted : (p : ℕ) → p < 5 → 1 * 2 ^ p % 256 ≡ 2 ^ p
+bit-shifted p h = let l = bit-le p h in omega arith
+
 -- ---- the lowest port of a mask
 
 -- It is one of the five, the mask has it, and to take the lowest bit away is to leave that port.

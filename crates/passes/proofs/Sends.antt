@@ -202,12 +202,31 @@ module _ (B : Board) (L : Laws B) where
         rw (sentBy-masked s grants (λ p l. winner s waiting p) sized p (omega arith))
         (grant-masked (portsLeft B s (sends grants p)) q hq (left-has s grants (λ p l. winner s waiting p) p (omega arith) q h hq))
 
-    -- So steps 2 and 3 port after port are step 3 with these grants.
-    pub served-sentBy : (p : ℕ) → p ≤ 5 → served B p waiting s ≡ sentBy B grants p s
+    -- So steps 2 and 3 port after port are step 3 with these grants, and the ports in turn are granted what they would be before.
+    served-sentBy : (p : ℕ) → p ≤ 5 → served B p waiting s ≡ sentBy B grants p s
     unfolding served sentBy
     served-sentBy zero h = refl
     served-sentBy (suc p) h = rw (served-sentBy p (omega arith), grant-sentBy p p (omega arith) h)
 
-    -- And the ports in turn are granted what they would be before.
-    pub grant-served : (p : ℕ) → p < 5 → grant B (served B p waiting s) waiting p ≡ grant B s waiting p
+    grant-served : (p : ℕ) → p < 5 → grant B (served B p waiting s) waiting p ≡ grant B s waiting p
     grant-served p h = rw (served-sentBy p (omega arith)) (grant-sentBy p p (omega arith) h)
+
+    -- ---- grants that are the definition's, whoever chose them
+
+    module _ (g : ℕ → Grant ℕ) (same : (p : ℕ) → p < 5 → g p ≡ grant B s waiting p) where
+      -- They win.
+      pub granted-wins : (p : ℕ) → p < 5 → Winner B s p (g p)
+      granted-wins p h = rw (same p h) (winner s waiting p)
+
+      -- Step 3 with them is steps 2 and 3.
+      same-sentBy : (p : ℕ) → p ≤ 5 → sentBy B g p s ≡ sentBy B grants p s
+      unfolding sentBy
+      same-sentBy zero h = refl
+      same-sentBy (suc p) h = rw (same-sentBy p (omega arith), same p h)
+
+      pub granted-served : sentBy B g 5 s ≡ served B 5 waiting s
+      granted-served = same-sentBy 5 (omega arith) ∙ sym (served-sentBy 5 (omega arith))
+
+      -- What each port makes of its grant.
+      pub granted-ports : (F : Grant ℕ → List ℕ) → perPort (λ p. F (g p)) ≡ perPort (λ p. F (grant B (served B p waiting s) waiting p))
+      granted-ports F = portsBelow-same (λ p. F (g p)) (λ p. F (grant B (served B p waiting s) waiting p)) 5 (λ p h. ap F (same p h ∙ sym (grant-served p h)))

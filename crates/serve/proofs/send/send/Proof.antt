@@ -1,10 +1,8 @@
--- `serve::send::packet` meets its contract: 20 bytes stored over 20 are these. Assumes nothing.
-use Rattle.serve.proofs.Sending.{packet-part}
-use mathlib.Core.Path.{refl, _∙_}
+-- `serve::send::send` meets its contract: the part of the memory that is copied is the slot's packet. Assumes nothing.
+use Rattle.passes.proofs.Packets.{part-packet}
 use borrow.Author.Needs.{needs}
-use native.Mathlib.Omega.{arith}
-use Rattle.serve.proofs.send.packet.Statement.{statement}
-use Rattle.serve.proofs.send.packet.Tie as tie
+use Rattle.serve.proofs.send.send.Statement.{statement}
+use Rattle.serve.proofs.send.send.Tie as tie
 
 cast-a : tie.Need-cast-a
 cast-a c = search needs
@@ -24,17 +22,20 @@ part-copy-in-start c = search needs
 part-copy-in-end : tie.Need-part-copy-in-end
 part-copy-in-end c = search needs
 
-slice-aggregate-copy-in : tie.Need-slice-aggregate-copy-in
-slice-aggregate-copy-in c = search needs
+mul-copy-in : tie.Need-mul-copy-in
+mul-copy-in c = search needs
 
 copy-in-requires : tie.Need-copy-in-requires
 copy-in-requires c κs = search needs
 
-returns : tie.Need-returns
-returns c = c .before .copy-in .ensures ∙ packet-part _ _ _ (c .before .before .before .before .before .before .pre) (omega arith) refl
+same-length : tie.Need-same-length
+same-length c = search needs
 
-pub packet-spec : {M : Type 1} → statement M
-packet-spec =
+returns : tie.Need-returns
+returns c = let c₂ = c .before .before in rw (part-packet _ _) at (c₂ .copy-in .ensures)
+
+pub send-spec : {M : Type 1} → statement M
+send-spec =
     tie.close
     (tie.spec
     cast-a
@@ -43,6 +44,7 @@ packet-spec =
     sub-copy-in
     part-copy-in-start
     part-copy-in-end
-    slice-aggregate-copy-in
+    mul-copy-in
     copy-in-requires
+    same-length
     returns)
