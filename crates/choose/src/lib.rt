@@ -114,12 +114,12 @@ fn choose(state: &[u8], waiting: u8, port: u8, best: u32) -> Grant
     ensures { λ r. ⌜ grantOf r ≡ grant board8 (now (state .entry)) waiting port ⌝ }
 {
     let slot = SlotAddress((best % 256) as u8);
-    if best < EARLY {
-        return Grant::OnTime(slot);
-    }
     let waits = layout::has_port(waiting, port);
     let horizon = layout::get(state, Field::Horizon(port));
     if best < bound(waits, EARLY + (horizon as u32 + 1) * 256) {
+        if best < EARLY {
+            return Grant::OnTime(slot);
+        }
         return Grant::Early(slot);
     }
     if waits {

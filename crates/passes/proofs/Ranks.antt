@@ -65,27 +65,33 @@ module _ (turn : ℕ) where
       go true = refl
       go false = refl
 
-  -- What the least rank says, the least key says: an early rank is below the bound exactly if its key is at most the horizon.
-  chosen-granted : (v : Option (ℕ × Key ℕ)) → Small 256 v → (b : Bool) (h : ℕ) → (turn * 256 ≤ rankOf turn v → h < turn) → chosen turn (rankOf turn v) b h ≡ granted v b h
+  -- What the least rank says, the least key says: an on-time rank is below every bound, and an early one exactly if best-effort doesn't wait and its key is at most the
+  -- horizon.
+  chosen-granted : (v : Option (ℕ × Key ℕ)) → Small 256 v → (b : Bool) (h : ℕ) → h < turn → chosen turn (rankOf turn v) b h ≡ granted v b h
   unfolding rankOf granted
-  chosen-granted none s b h l = rw (le-ltb (2 * turn * 256) (turn * 256) (omega arith), le-ltb (2 * turn * 256) (bound turn b h) (above b))
+  chosen-granted none s b h l = rw (le-ltb (2 * turn * 256) (bound turn b h) (highest b))
     where
-      above : (b : Bool) → bound turn b h ≤ 2 * turn * 256
-      above true = omega arith
-      above false = let m = l (omega arith) in omega arith
+      highest : (b : Bool) → bound turn b h ≤ 2 * turn * 256
+      highest true = omega arith
+      highest false = omega arith
   chosen-granted (some (i, k)) s b h l = go (k .early)
     where
       x : ℕ
       x = k .key
 
-      far : (b : Bool) → Dec (x ≤ h) → (r : ℕ) → r ≡ turn * 256 + x * 256 + i → cond (ltb r (bound turn b h)) (early (r % 256)) (cond b bestEffort nobody) ≡ cond b bestEffort (cond (leb x h) (early i) nobody)
+      lowest : (b : Bool) → x * 256 + i < bound turn b h
+      lowest true = omega arith
+      lowest false = omega arith
+
+      far : (b : Bool) → Dec (x ≤ h) → (r : ℕ) → r ≡ turn * 256 + x * 256 + i
+          → cond (ltb r (bound turn b h)) (cond (ltb r (turn * 256)) (onTime (r % 256)) (early (r % 256))) (cond b bestEffort nobody) ≡ cond b bestEffort (cond (leb x h) (early i) nobody)
       far true d r e = rw (le-ltb r (turn * 256) (omega arith))
-      far false (yes m) r e = rw (lt-ltb r (turn * 256 + (h + 1) * 256) (omega arith), le-leb x h m) (ap early (omega arith))
+      far false (yes m) r e = rw (lt-ltb r (turn * 256 + (h + 1) * 256) (omega arith), le-ltb r (turn * 256) (omega arith), le-leb x h m) (ap early (omega arith))
       far false (no m) r e = rw (le-ltb r (turn * 256 + (h + 1) * 256) (omega arith), lt-leb x h (omega arith))
 
       go : (a : Bool) → chosen turn (cond a (turn * 256) 0 + x * 256 + i) b h ≡ cond a (cond b bestEffort (cond (leb x h) (early i) nobody)) (onTime i)
-      go false = rw (lt-ltb (0 + x * 256 + i) (turn * 256) (omega arith)) (ap onTime (omega arith))
-      go true = rw (le-ltb (turn * 256 + x * 256 + i) (turn * 256) (omega arith)) (far b (decLe x h) (turn * 256 + x * 256 + i) refl)
+      go false = let q = lowest b in rw (lt-ltb (0 + x * 256 + i) (bound turn b h) (omega arith), lt-ltb (0 + x * 256 + i) (turn * 256) (omega arith)) (ap onTime (omega arith))
+      go true = far b (decLe x h) (turn * 256 + x * 256 + i) refl
 
 module _ (B : Board) where
   open Board B using (clockBytes as c, get)
@@ -154,26 +160,24 @@ module _ (B : Board) where
 
   -- ---- whom the least rank grants the port, by the tests of the code
 
-  module _ (s : List ℕ) (waiting p r h : ℕ) (er : r ≡ best B s 256 p) (eh : h ≡ get s (horizon p)) (small : turn * 256 ≤ r → h < turn) where
+  -- The horizon is h, and m the bound of the ranks that the port sends, b where best-effort waits.
+  module _ (s : List ℕ) (waiting p r : ℕ) (er : r ≡ best B s 256 p) (h : ℕ) (eh : h ≡ get s (horizon p)) (small : h < turn) (b : Bool) (eb : b ≡ has waiting p)
+      (m : ℕ) (em : m ≡ bound turn b h) where
     abbrev Grants : Grant ℕ → Type 0
     Grants g = g ≡ grant B s waiting p
 
-    chosen-grant : Grants (chosen turn r (has waiting p) h)
+    chosen-grant : Grants (cond (ltb r m) (cond (ltb r (turn * 256)) (onTime (r % 256)) (early (r % 256))) (cond b bestEffort nobody))
     unfolding grant best
-    chosen-grant = rw (er, ← eh) (chosen-granted turn (least (comparator ltb) (candidate B s p) 256) (least-small s p 256) (has waiting p) h (rw er at small))
+    chosen-grant = rw (em, eb, er, ← eh) (chosen-granted turn (least (comparator ltb) (candidate B s p) 256) (least-small s p 256) (has waiting p) h small)
 
-    pub grants-on-time : r < turn * 256 → Grants (onTime (r % 256))
-    grants-on-time l = rw (lt-ltb r (turn * 256) l) at chosen-grant
+    pub grants-on-time : r < m → r < turn * 256 → Grants (onTime (r % 256))
+    grants-on-time l n = rw (lt-ltb r m l, lt-ltb r (turn * 256) n) at chosen-grant
 
-    module _ (l : turn * 256 ≤ r) (b : Bool) (w : b ≡ has waiting p) (m : ℕ) (em : m ≡ bound turn b h) where
-      beyond : Grants (cond (ltb r m) (early (r % 256)) (cond b bestEffort nobody))
-      beyond = rw (le-ltb r (turn * 256) l, ← w, ← em) at chosen-grant
+    pub grants-early : r < m → turn * 256 ≤ r → Grants (early (r % 256))
+    grants-early l n = rw (lt-ltb r m l, le-ltb r (turn * 256) n) at chosen-grant
 
-      pub grants-early : r < m → Grants (early (r % 256))
-      grants-early n = rw (lt-ltb r m n) at beyond
+    pub grants-best-effort : m ≤ r → b ≡ true → Grants bestEffort
+    grants-best-effort l e = rw (le-ltb r m l, e) at chosen-grant
 
-      pub grants-best-effort : m ≤ r → b ≡ true → Grants bestEffort
-      grants-best-effort n e = rw (le-ltb r m n, e) at beyond
-
-      pub grants-nobody : m ≤ r → b ≡ false → Grants nobody
-      grants-nobody n e = rw (le-ltb r m n, e) at beyond
+    pub grants-nobody : m ≤ r → b ≡ false → Grants nobody
+    grants-nobody l e = rw (le-ltb r m l, e) at chosen-grant

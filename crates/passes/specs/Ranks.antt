@@ -31,7 +31,7 @@ module _ (turn : ℕ) where
 
   -- Who has a port with the least rank r.
   abbrev pub chosen : ℕ → Bool → ℕ → Grant ℕ
-  chosen r b h = cond (ltb r (turn * 256)) (onTime (r % 256)) (cond (ltb r (bound b h)) (early (r % 256)) (cond b bestEffort nobody))
+  chosen r b h = cond (ltb r (bound b h)) (cond (ltb r (turn * 256)) (onTime (r % 256)) (early (r % 256))) (cond b bestEffort nobody)
 
 module _ (B : Board) where
   -- The rank of slot i, for each port in its mask.

@@ -12,6 +12,15 @@ use choose::Grant;
 use layout::Router;
 use layout::SlotAddress;
 
+// What a port answers, by who has it.
+const IDLE: u8 = 0;
+
+const ON_TIME: u8 = 1;
+
+const BEST_EFFORT: u8 = 2;
+
+const EARLY: u8 = 3;
+
 // The port sends nothing.
 fn send_nothing(outgoing: &mut [u8], port: u8)
     requires { ⌜ (length (now outgoing) ≡ Areas.outgoingLength) × (port < 5) ⌝ }
@@ -57,21 +66,21 @@ fn serve_port(
     match g {
         Grant::Nobody => {
             send_nothing(outgoing, port);
-            0
+            IDLE
         }
         Grant::OnTime(s) => {
             send(memory, outgoing, port, s);
             join(sent, port, s);
-            1
+            ON_TIME
         }
         Grant::BestEffort => {
             send_nothing(outgoing, port);
-            2
+            BEST_EFFORT
         }
         Grant::Early(s) => {
             send(memory, outgoing, port, s);
             join(sent, port, s);
-            3
+            EARLY
         }
     }
 }

@@ -2,7 +2,6 @@
 use Rattle.passes.proofs.Ranks.{grants-on-time, grants-early, grants-best-effort, grants-nobody}
 use Rattle.rules.specs.Areas.{low, bits}
 use Rattle.rules.specs.Board8.{board8}
-use mathlib.Core.Path.{refl}
 use native.Mathlib.Omega.{arith}
 use borrow.Author.Needs.{needs}
 use Rattle.choose.proofs.choose.Statement.{statement}
@@ -10,10 +9,6 @@ use Rattle.choose.proofs.choose.Tie as tie
 
 cast-t9 : tie.Need-cast-t9
 cast-t9 c = search needs
-
-returns : tie.Need-returns
-unfolding bits low
-returns c = grants-on-time board8 _ _ _ _ _ (c .before .before .pre .1) refl (λ n. absurd (omega arith)) (omega arith)
 
 has-port-requires : tie.Need-has-port-requires
 has-port-requires c κs = search needs
@@ -36,36 +31,39 @@ add-bound-2 c = search needs
 bound-requires : tie.Need-bound-requires
 bound-requires c κs = search needs
 
-returns-2 : tie.Need-returns-2
+returns : tie.Need-returns
 unfolding bits low
-returns-2 c = let c₂ = c .before in
+returns c = let c₂ = c .before .before in
     let c₃ = c₂ .before in
     let c₄ = c₃ .before in
-    let c₇ = c₄ .before .before .before in
-    grants-early board8 _ _ _ _ _ (c₇ .pre .1) (c₃ .get .ensures) (λ n. omega arith) (omega arith) _ (c₄ .has-port .ensures) _ (c₂ .bound .ensures) (omega arith)
+    grants-on-time board8 _ _ _ _ (c₄ .before .before .pre .1) _ (c₃ .get .ensures) (omega arith) _ (c₄ .has-port .ensures) _ (c₂ .bound .ensures) (omega arith) (omega arith)
+
+returns-2 : tie.Need-returns-2
+unfolding bits low
+returns-2 c = let c₂ = c .before .before in
+    let c₃ = c₂ .before in
+    let c₄ = c₃ .before in
+    grants-early board8 _ _ _ _ (c₄ .before .before .pre .1) _ (c₃ .get .ensures) (omega arith) _ (c₄ .has-port .ensures) _ (c₂ .bound .ensures) (omega arith) (omega arith)
 
 returns-3 : tie.Need-returns-3
 unfolding bits low
 returns-3 c = let c₂ = c .before .before in
     let c₃ = c₂ .before in
     let c₄ = c₃ .before in
-    let c₇ = c₄ .before .before .before in
-    grants-best-effort board8 _ _ _ _ _ (c₇ .pre .1) (c₃ .get .ensures) (λ n. omega arith) (omega arith) _ (c₄ .has-port .ensures) _ (c₂ .bound .ensures) (omega arith) (c .if3 .taken)
+    grants-best-effort board8 _ _ _ _ (c₄ .before .before .pre .1) _ (c₃ .get .ensures) (omega arith) _ (c₄ .has-port .ensures) _ (c₂ .bound .ensures) (omega arith) (c .if3 .taken)
 
 returns-4 : tie.Need-returns-4
 unfolding bits low
 returns-4 c = let c₂ = c .before .before in
     let c₃ = c₂ .before in
     let c₄ = c₃ .before in
-    let c₇ = c₄ .before .before .before in
-    grants-nobody board8 _ _ _ _ _ (c₇ .pre .1) (c₃ .get .ensures) (λ n. omega arith) (omega arith) _ (c₄ .has-port .ensures) _ (c₂ .bound .ensures) (omega arith) (c .if3 .left)
+    grants-nobody board8 _ _ _ _ (c₄ .before .before .pre .1) _ (c₃ .get .ensures) (omega arith) _ (c₄ .has-port .ensures) _ (c₂ .bound .ensures) (omega arith) (c .if3 .left)
 
 pub choose-spec : {M : Type 1} → statement M
 choose-spec =
     tie.close
     (tie.spec
     cast-t9
-    returns
     has-port-requires
     get-requires
     cast-bound
@@ -73,6 +71,7 @@ choose-spec =
     mul-bound
     add-bound-2
     bound-requires
+    returns
     returns-2
     returns-3
     returns-4)
