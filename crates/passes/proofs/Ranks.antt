@@ -8,18 +8,21 @@ use mathlib.Core.Option.{Option, none, some}
 use native.Mathlib.Decide.{decLt, decLe}
 use native.Mathlib.Omega.{arith}
 use lib.Dec.{leb, ltb}
+use lib.IntN.{pos}
+use lib.Signed.{leZ}
 use lib.ListN.{replicate, getD-replicate}
 use borrow.Author.Tests.{lt-ltb, le-ltb, lt-leb, le-leb}
-use Rattle.rules.specs.Clock.{minus}
+use Rattle.rules.specs.Clock.{minus, offset}
 use Rattle.rules.specs.Indices.{better, least}
 use Rattle.rules.specs.Areas.{bits, has, Grant, nobody, bestEffort, onTime, early}
-use Rattle.rules.specs.Board.{Board, horizon, mask}
+use Rattle.rules.specs.Board.{Board, clock, horizon, time, deadline, mask}
 use Rattle.rules.specs.Order.{by, then, Key, onTimeFirst, comparator}
 use Rattle.rules.specs.Tick.{granted, slotKey, candidate, grant}
 use Rattle.rules.proofs.Booleans.{some-inj, none-some}
 use Rattle.rules.proofs.ClockLaws.{minus-lt}
 use Rattle.rules.proofs.IndexLaws.{least-in}
 use Rattle.rules.proofs.Masks.{has-zero}
+use Rattle.rules.proofs.Offsets.{above}
 use Rattle.passes.specs.Ports.{EachPort, changed}
 use Rattle.passes.specs.Ranks.{lesser, rank, rankOf, bound, chosen, slotRank, best}
 use Rattle.passes.proofs.MaskPorts.{has-low}
@@ -106,6 +109,17 @@ module _ (B : Board) where
   unfolding slotKey
   key-lt s i = minus-lt (bits c) _ _
 
+  -- A slot's rank, by its time u and whether the offset of that is at most 0, as the code finds it.
+  module _ (s : List ℕ) (i t u k : ℕ) (et : t ≡ get s clock) (eu : u ≡ get s (time i)) where
+    pub rank-on-time : leZ (offset (bits c) u t) (pos 0) ≡ true → (d : ℕ) → d ≡ get s (deadline i) → k ≡ minus (bits c) d t → k * 256 + i ≡ slotRank B s i
+    unfolding slotKey
+    rank-on-time o d ed ek = rw (above (pos 0) (offset (bits c) (get s (time i)) (get s clock)), ← et, ← eu, o, ← ed, ← ek) (omega arith)
+
+    pub rank-early : leZ (offset (bits c) u t) (pos 0) ≡ false → k ≡ minus (bits c) u t → turn * 256 + k * 256 + i ≡ slotRank B s i
+    unfolding slotKey
+    rank-early o ek = rw (above (pos 0) (offset (bits c) (get s (time i)) (get s clock)), ← et, ← eu, o, ← ek)
+
+  -- A least key is one of the slots'.
   least-small : (s : List ℕ) (p n : ℕ) → Small turn n (least (comparator ltb) (candidate B s p) n)
   unfolding candidate
   least-small s p n = go (least (comparator ltb) (candidate B s p) n) refl
