@@ -190,8 +190,13 @@ module _ (B : Board) (L : Laws B) where
       where
         same : (i : ℕ) → i < 256 → candidate B (masked B L f s 256) q i ≡ candidate B s q i
         same i l =
-            rw (mask-masked B L f s sized i 256 l (omega arith), h i, get-masked B L f s sized (time i) l refl 256 (omega arith),
-              get-masked B L f s sized (deadline i) l refl 256 (omega arith), get-masked B L f s sized clock (omega arith) refl 256 (omega arith))
+            rw (
+              mask-masked B L f s sized i 256 l (omega arith),
+              h i,
+              get-masked B L f s sized (time i) l refl 256 (omega arith),
+              get-masked B L f s sized (deadline i) l refl 256 (omega arith),
+              get-masked B L f s sized clock (omega arith) refl 256 (omega arith),
+            )
 
     -- The grants before step 3.
     abbrev grants : ℕ → Grant ℕ

@@ -93,7 +93,7 @@ module _ (B : Board) (L : Laws B) where
     settled-steps room =
         settled-back B L s l sized room 256 (omega arith)
         ∙ sym (ap (returned B 256 s) fourth ∙ returned-back s sized (masked B L (maskLeft B s l) s 256) (length-masked B L (maskLeft B s l) s sized 256) (λ i. occupied B s i && eqb (maskLeft B s l i) 0)
-          (left-room B L s l sized room 256 (omega arith)) (λ i h. rw (mask-masked B L (maskLeft B s l) s sized i 256 h (omega arith))) 256 (omega arith))
+        (left-room B L s l sized room 256 (omega arith)) (λ i h. rw (mask-masked B L (maskLeft B s l) s sized i 256 h (omega arith))) 256 (omega arith))
 
     -- What the pass counts is what step 4 withdraws.
     missed-withdrawals : (p : ℕ) → missed B s l 256 p ≡ withdrawals B (sentBy B g 5 s) p
