@@ -1,4 +1,1 @@
-pub mod Empty
-mod Ranking
-mod Offers
-mod Choice
+mod FiveGrants

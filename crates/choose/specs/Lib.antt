@@ -1,3 +1,1 @@
-pub mod Empty
-pub mod Ranks
 pub mod Grants

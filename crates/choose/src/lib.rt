@@ -3,15 +3,16 @@ ghost use mathlib.Core.Path.{_≡_};
 ghost use mathlib.Core.Bool.{cond};
 ghost use Prim.Native.Nat.{suc, _<_};
 ghost use lib.ListN.{length};
-ghost use lib.Dec.{ltb};
 ghost use Rattle.rules.specs.Board.{clock};
 ghost use Rattle.rules.specs.Board8.{board8};
 ghost use Rattle.rules.specs.Tick.{grant};
-ghost use Rattle.choose.specs.Ranks as Ranks;
-ghost use Rattle.choose.specs.Grants.{grantOf};
-ghost use Rattle.choose.specs.Empty.{EmptyFrom};
+ghost use Rattle.passes.specs.Empty.{EmptyFrom};
+ghost use Rattle.passes.specs.Ports.{EachPort, changed};
+ghost use Rattle.passes.specs.Ranks as Ranks;
+ghost use Rattle.choose.specs.Grants.{grantOf, Granted};
 use layout::ClockReading;
 use layout::Field;
+use layout::Router;
 use layout::SlotAddress;
 
 // Where the ranks of early slots begin, and the rank of no slot.
@@ -29,7 +30,8 @@ pub enum Grant {
 
 // A slot's key and address as one number, the on-time ones first.
 fn rank(state: &[u8], t: ClockReading, s: SlotAddress) -> u32
-    ensures { λ r. ⌜ r ≡ Ranks.slotRank (now (state .entry)) (t .0) (s .0) ⌝ }
+    requires { ⌜ t .0 ≡ board8 .get (now state) clock ⌝ }
+    ensures { λ r. ⌜ r ≡ Ranks.slotRank board8 (now (state .entry)) (s .0) ⌝ }
 {
     let time = ClockReading(layout::get(state, Field::Time(s)));
     if clock::on_time(time, t) {
@@ -40,15 +42,15 @@ fn rank(state: &[u8], t: ClockReading, s: SlotAddress) -> u32
 }
 
 fn lesser(rank: u32, best: u32) -> u32
-    ensures { λ r. ⌜ r ≡ cond (ltb rank best) rank best ⌝ }
+    ensures { λ r. ⌜ r ≡ Ranks.lesser rank best ⌝ }
 {
     if rank < best { rank } else { best }
 }
 
 // Gives each port in the mask the lesser of its least rank and this one, lowest port first.
-fn offer(bests: &mut [u32; 5], mask: u8, rank: u32)
+fn offer(bests: &mut [u32; Router::PORTS], mask: u8, rank: u32)
     requires { ⌜ (mask < 32) × (length (now bests) ≡ 5) ⌝ }
-    ensures { λ _. ⌜ Ranks.Offered mask rank (now (bests .entry)) (now (bests .exit)) ⌝ }
+    ensures { λ _. ⌜ EachPort (changed (Ranks.lesser rank) mask (now (bests .entry))) (now (bests .exit)) ⌝ }
 {
     let mut left = mask;
     while left != 0 {
@@ -59,9 +61,9 @@ fn offer(bests: &mut [u32; 5], mask: u8, rank: u32)
 }
 
 // The least ranks, with slot s looked at.
-fn look(state: &[u8], t: ClockReading, s: SlotAddress, bests: &mut [u32; 5])
-    requires { ⌜ (t .0 ≡ board8 .get (now state) clock) × Ranks.Bests (now state) (s .0) (now bests) ⌝ }
-    ensures { λ _. ⌜ Ranks.Bests (now (state .entry)) (suc (s .0)) (now (bests .exit)) ⌝ }
+fn look(state: &[u8], t: ClockReading, s: SlotAddress, bests: &mut [u32; Router::PORTS])
+    requires { ⌜ (t .0 ≡ board8 .get (now state) clock) × EachPort (Ranks.best board8 (now state) (s .0)) (now bests) ⌝ }
+    ensures { λ _. ⌜ EachPort (Ranks.best board8 (now (state .entry)) (suc (s .0))) (now (bests .exit)) ⌝ }
 {
     let mask = layout::get(state, Field::Mask(s)) % 32;
     if mask == 0 {
@@ -72,9 +74,9 @@ fn look(state: &[u8], t: ClockReading, s: SlotAddress, bests: &mut [u32; 5])
 
 // All slots from this one on are empty.
 pub fn end(state: &[u8]) -> usize
-    ensures { λ r. ⌜ EmptyFrom (now (state .entry)) r ⌝ }
+    ensures { λ r. ⌜ EmptyFrom board8 (now (state .entry)) r ⌝ }
 {
-    let mut e: usize = 256;
+    let mut e: usize = Router::SLOTS;
     while 0 < e {
         if layout::get(state, Field::Mask(SlotAddress((e - 1) as u8))) != 0 {
             return e;
@@ -85,12 +87,12 @@ pub fn end(state: &[u8]) -> usize
 }
 
 // The least ranks of all slots; those from `end` on are empty.
-pub fn scan(state: &[u8], end: usize) -> [u32; 5]
-    requires { ⌜ EmptyFrom (now state) end ⌝ }
-    ensures { λ r. ⌜ Ranks.Bests (now (state .entry)) 256 r ⌝ }
+fn scan(state: &[u8], end: usize) -> [u32; Router::PORTS]
+    requires { ⌜ EmptyFrom board8 (now state) end ⌝ }
+    ensures { λ r. ⌜ EachPort (Ranks.best board8 (now (state .entry)) 256) r ⌝ }
 {
     let t = ClockReading(layout::get(state, Field::Clock));
-    let mut bests = [NONE; 5];
+    let mut bests = [NONE; Router::PORTS];
     let mut i: usize = 0;
     while i < end {
         look(state, t, SlotAddress(i as u8), &mut bests);
@@ -99,23 +101,45 @@ pub fn scan(state: &[u8], end: usize) -> [u32; 5]
     bests
 }
 
+// A port sends the ranks below this: the on-time ones and, where best-effort doesn't wait, those of early slots within the horizon, which are below `ahead`.
+fn bound(waits: bool, ahead: u32) -> u32
+    ensures { λ r. ⌜ r ≡ cond waits 65536 ahead ⌝ }
+{
+    if waits { EARLY } else { ahead }
+}
+
 // Who has a port, by its least rank.
-pub fn choose(state: &[u8], waiting: u8, port: u8, best: u32) -> Grant
-    requires { ⌜ (port < 5) × (best ≡ Ranks.best (now state) 256 port) ⌝ }
+fn choose(state: &[u8], waiting: u8, port: u8, best: u32) -> Grant
+    requires { ⌜ (port < 5) × (best ≡ Ranks.best board8 (now state) 256 port) ⌝ }
     ensures { λ r. ⌜ grantOf r ≡ grant board8 (now (state .entry)) waiting port ⌝ }
 {
     let slot = SlotAddress((best % 256) as u8);
-    if best < EARLY {
-        return Grant::OnTime(slot);
-    }
-    if layout::has_port(waiting, port) {
-        return Grant::BestEffort;
-    }
-    if NONE <= best {
-        return Grant::Nobody;
-    }
-    if best / 256 - 256 <= layout::get(state, Field::Horizon(port)) as u32 {
+    let waits = layout::has_port(waiting, port);
+    let horizon = layout::get(state, Field::Horizon(port));
+    if best < bound(waits, EARLY + (horizon as u32 + 1) * 256) {
+        if best < EARLY {
+            return Grant::OnTime(slot);
+        }
         return Grant::Early(slot);
     }
+    if waits {
+        return Grant::BestEffort;
+    }
     Grant::Nobody
+}
+
+// Who has each port, best-effort waiting where the mask says; the slots from `end` on are empty.
+pub fn grants(state: &[u8], end: usize, waiting: u8) -> [Grant; Router::PORTS]
+    requires { ⌜ EmptyFrom board8 (now state) end ⌝ }
+    ensures { λ r. ⌜ Granted (now (state .entry)) waiting 5 r ⌝ }
+{
+    let bests = scan(state, end);
+    let mut grants = [Grant::Nobody; Router::PORTS];
+    let mut p: usize = 0;
+    while p < Router::PORTS {
+        let g = choose(state, waiting, p as u8, bests[p]);
+        grants[p] = g;
+        p += 1;
+    }
+    grants
 }

@@ -4,3 +4,12 @@ pub mod SlotTests
 pub mod Packets
 pub mod Arrivals
 pub mod MakeFresh
+pub mod Counting
+pub mod MaskPorts
+pub mod EmptySlots
+pub mod Ranks
+pub mod SlotMasks
+pub mod GivingBack
+pub mod Sends
+pub mod Settling
+pub mod Steps

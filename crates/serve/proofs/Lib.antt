@@ -1,3 +1,0 @@
-mod Grants
-mod Sending
-mod Passes

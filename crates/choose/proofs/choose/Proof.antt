@@ -1,65 +1,77 @@
--- `choose::choose` meets its contract: at each return a law of `Choice` says what a rank with these tests grants. Assumes nothing.
-use Rattle.choose.proofs.Choice.{choose-due, choose-waiting, choose-none, choose-early, choose-far}
-use Rattle.choose.proofs.Ranking.{due-small, early-small}
-use Rattle.choose.specs.Ranks.{best}
-use Rattle.rules.specs.Tick.{grant}
+-- `choose::choose` meets its contract: at each return a law of `Ranks` says what a rank with these tests grants; a turn of the clock is 256. Assumes nothing.
+use Rattle.passes.proofs.Ranks.{grants-on-time, grants-early, grants-best-effort, grants-nobody}
+use Rattle.rules.specs.Areas.{low, bits}
+use Rattle.rules.specs.Board8.{board8}
 use native.Mathlib.Omega.{arith}
 use borrow.Author.Needs.{needs}
 use Rattle.choose.proofs.choose.Statement.{statement}
 use Rattle.choose.proofs.choose.Tie as tie
 
-cast-if4 : tie.Need-cast-if4
-cast-if4 c = search needs
-
-returns : tie.Need-returns
-unfolding grant best
-returns c = choose-due _ _ _ _ (c .before .before .pre .1) (due-small _ _ 256) (early-small _ _ 256) _ (omega arith)
+cast-t9 : tie.Need-cast-t9
+cast-t9 c = search needs
 
 has-port-requires : tie.Need-has-port-requires
 has-port-requires c κs = search needs
 
-returns-2 : tie.Need-returns-2
-unfolding grant best
-returns-2 c = rw (← c .before .has-port .ensures, c .if2 .taken) (choose-waiting _ _ _ _ (c .before .before .before .before .pre .1) (due-small _ _ 256) (early-small _ _ 256) (omega arith))
-
-returns-3 : tie.Need-returns-3
-unfolding grant best
-returns-3 c = rw (← c .before .before .has-port .ensures, c .before .if2 .left) (choose-none _ _ _ _ (c .before .before .before .before .before .pre .1) (due-small _ _ 256) (early-small _ _ 256) (omega arith) (omega arith))
-
-sub-if4 : tie.Need-sub-if4
-sub-if4 c = search needs
-
 get-requires : tie.Need-get-requires
 get-requires c κs = search needs
 
-cast-if4-2 : tie.Need-cast-if4-2
-cast-if4-2 c = search needs
+cast-bound : tie.Need-cast-bound
+cast-bound c = search needs
+
+add-bound : tie.Need-add-bound
+add-bound c = search needs
+
+mul-bound : tie.Need-mul-bound
+mul-bound c = search needs
+
+add-bound-2 : tie.Need-add-bound-2
+add-bound-2 c = search needs
+
+bound-requires : tie.Need-bound-requires
+bound-requires c κs = search needs
+
+returns : tie.Need-returns
+unfolding bits low
+returns c = let c₂ = c .before .before in
+    let c₃ = c₂ .before in
+    let c₄ = c₃ .before in
+    grants-on-time board8 _ _ _ _ (c₄ .before .before .pre .1) _ (c₃ .get .ensures) (omega arith) _ (c₄ .has-port .ensures) _ (c₂ .bound .ensures) (omega arith) (omega arith)
+
+returns-2 : tie.Need-returns-2
+unfolding bits low
+returns-2 c = let c₂ = c .before .before in
+    let c₃ = c₂ .before in
+    let c₄ = c₃ .before in
+    grants-early board8 _ _ _ _ (c₄ .before .before .pre .1) _ (c₃ .get .ensures) (omega arith) _ (c₄ .has-port .ensures) _ (c₂ .bound .ensures) (omega arith) (omega arith)
+
+returns-3 : tie.Need-returns-3
+unfolding bits low
+returns-3 c = let c₂ = c .before .before in
+    let c₃ = c₂ .before in
+    let c₄ = c₃ .before in
+    grants-best-effort board8 _ _ _ _ (c₄ .before .before .pre .1) _ (c₃ .get .ensures) (omega arith) _ (c₄ .has-port .ensures) _ (c₂ .bound .ensures) (omega arith) (c .if3 .taken)
 
 returns-4 : tie.Need-returns-4
-unfolding grant best
-returns-4 c = let c₃ = c .before .before .before in
+unfolding bits low
+returns-4 c = let c₂ = c .before .before in
+    let c₃ = c₂ .before in
     let c₄ = c₃ .before in
-    let c₇ = c₄ .before .before .before in
-    rw (← c₄ .has-port .ensures, c₃ .if2 .left, ← c .before .get .ensures) (choose-early _ _ _ _ (c₇ .pre .1) (due-small _ _ 256) (early-small _ _ 256) (omega arith) (omega arith) (omega arith))
-
-returns-5 : tie.Need-returns-5
-unfolding grant best
-returns-5 c = let c₃ = c .before .before .before in
-    let c₄ = c₃ .before in
-    let c₇ = c₄ .before .before .before in
-    rw (← c₄ .has-port .ensures, c₃ .if2 .left, ← c .before .get .ensures) (choose-far _ _ _ _ (c₇ .pre .1) (due-small _ _ 256) (early-small _ _ 256) (omega arith) (omega arith) (omega arith))
+    grants-nobody board8 _ _ _ _ (c₄ .before .before .pre .1) _ (c₃ .get .ensures) (omega arith) _ (c₄ .has-port .ensures) _ (c₂ .bound .ensures) (omega arith) (c .if3 .left)
 
 pub choose-spec : {M : Type 1} → statement M
 choose-spec =
     tie.close
     (tie.spec
-    cast-if4
-    returns
+    cast-t9
     has-port-requires
+    get-requires
+    cast-bound
+    add-bound
+    mul-bound
+    add-bound-2
+    bound-requires
+    returns
     returns-2
     returns-3
-    sub-if4
-    get-requires
-    cast-if4-2
-    returns-4
-    returns-5)
+    returns-4)

@@ -1,6 +1,7 @@
 -- `choose::end` meets its contract. The loop's invariant: the slots from `e` on are empty. The measure is `e`. Assumes nothing.
-use Rattle.choose.proofs.Empty.{empty-less}
-use Rattle.choose.specs.Empty.{EmptyFrom}
+use Rattle.passes.specs.Empty.{EmptyFrom}
+use Rattle.passes.proofs.EmptySlots.{empty-less}
+use Rattle.rules.specs.Board8.{board8}
 use mathlib.Core.Path.{sym, _∙_}
 use borrow.Author.Needs.{needs}
 use native.Mathlib.Omega.{arith}
@@ -8,7 +9,7 @@ use Rattle.choose.proofs.end.Statement.{statement}
 use Rattle.choose.proofs.end.Tie as tie
 
 abbrev Inv-loop : tie.InvT-loop
-Inv-loop state e₀ e = EmptyFrom state e
+Inv-loop state e₀ e = EmptyFrom board8 state e
 
 abbrev μ-loop : tie.MeasureT-loop
 μ-loop state e₀ e = e
@@ -35,7 +36,7 @@ loop-less : tie.Need-loop-less Inv-loop μ-loop
 loop-less c = search needs
 
 loop-again : tie.Need-loop-again Inv-loop μ-loop
-loop-again c = empty-less _ _ (c .before .before .loop-test .taken) (c .before .before .before .loop .inv) (sym (c .before .get .ensures) ∙ c .if1 .left)
+loop-again c = empty-less board8 _ _ (c .before .before .loop-test .taken) (c .before .before .before .loop .inv) (sym (c .before .get .ensures) ∙ c .if1 .left)
 
 returns-2 : tie.Need-returns-2 Inv-loop μ-loop
 returns-2 c = c .before .loop .inv

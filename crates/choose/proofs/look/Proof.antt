@@ -1,5 +1,6 @@
 -- `choose::look` meets its contract: a slot without a port changes no least rank, and any other is offered to its ports. Assumes nothing.
-use Rattle.choose.proofs.Ranking.{bests-suc, bests-none}
+use Rattle.passes.proofs.Ranks.{bests-suc, bests-none}
+use Rattle.rules.specs.Board8.{board8}
 use borrow.Author.Needs.{needs}
 use native.Mathlib.Omega.{arith}
 use Rattle.choose.proofs.look.Statement.{statement}
@@ -9,7 +10,7 @@ get-requires : tie.Need-get-requires
 get-requires c κs = search needs
 
 returns : tie.Need-returns
-returns c = bests-none _ _ _ (omega arith) (c .before .get .ensures) (c .if1 .taken) _ (c .before .before .before .pre .1)
+returns c = bests-none board8 _ _ (omega arith) _ (c .before .get .ensures) _ (c .before .before .before .pre .1) (c .if1 .taken)
 
 rank-requires : tie.Need-rank-requires
 rank-requires c κs = search needs
@@ -18,8 +19,8 @@ offer-requires : tie.Need-offer-requires
 offer-requires c κs = search needs
 
 returns-2 : tie.Need-returns-2
-returns-2 c = let c₆ = c .before .before .before .before .before .before in
-    bests-suc _ _ _ (c₆ .pre .0) (omega arith) _ _ (omega arith) (c .before .before .before .before .get .ensures) (c .before .rank .ensures) _ _ (c₆ .pre .1) (c .offer .ensures)
+returns-2 c = let c₄ = c .before .before .before .before in
+    bests-suc board8 _ _ (omega arith) _ (c₄ .get .ensures) _ (c₄ .before .before .pre .1) _ (c .before .rank .ensures) _ (c .offer .ensures)
 
 pub look-spec : {M : Type 1} → statement M
 look-spec = tie.close (tie.spec get-requires returns rank-requires offer-requires returns-2)

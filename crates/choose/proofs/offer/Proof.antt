@@ -1,7 +1,8 @@
 -- `choose::offer` meets its contract. The loop's invariant: to offer the rank to the ports left makes of each port what the contract says.
 -- The measure is the mask of the ports left. Assumes nothing.
-use Rattle.choose.proofs.Offers.{lowest-port, offered-rest, offered-none}
-use Rattle.choose.specs.Ranks.{offered}
+use Rattle.passes.specs.Ports.{changed}
+use Rattle.passes.specs.Ranks.{lesser}
+use Rattle.passes.proofs.MaskPorts.{lowest-port, changed-rest, changed-none}
 use lib.Bits.{and-le-r}
 use lib.ListN.{length, length-set}
 use mathlib.Core.Path.{_≡_, refl, _∙_}
@@ -12,7 +13,7 @@ use Rattle.choose.proofs.offer.Statement.{statement}
 use Rattle.choose.proofs.offer.Tie as tie
 
 abbrev Inv-loop : tie.InvT-loop
-Inv-loop bests₀ mask rank left₀ bests left = (left < 32) × (length bests ≡ 5) × ((p : ℕ) → p < 5 → offered left rank bests p ≡ offered mask rank bests₀ p)
+Inv-loop bests₀ mask rank left₀ bests left = (left < 32) × (length bests ≡ 5) × ((p : ℕ) → p < 5 → changed (lesser rank) left bests p ≡ changed (lesser rank) mask bests₀ p)
 
 abbrev μ-loop : tie.MeasureT-loop
 μ-loop bests₀ mask rank left₀ bests left = left
@@ -45,12 +46,18 @@ loop-less : tie.Need-loop-less Inv-loop μ-loop
 loop-less c = let m = c .before .before .before .loop .left in omega (arith, and-le-r m (m - 1))
 
 loop-again : tie.Need-loop-again Inv-loop μ-loop
-loop-again c = let l = c .before .before .before .loop in
+loop-again c = let c₃ = c .before .before .before in
+    let l = c₃ .loop in
     let t = c .before .before .loop-test .taken in
-    (omega (arith, and-le-r (l .left) (l .left - 1)), simp length-set (l .inv .1), λ p h. offered-rest _ (l .inv .0) t _ (l .bests) (l .inv .1) _ (c .lesser .ensures) p h ∙ l .inv .2 p h)
+    let r = c₃ .before .args .rank in (
+      omega (arith, and-le-r (l .left) (l .left - 1)),
+      simp length-set (l .inv .1),
+      λ p h. changed-rest _ (l .inv .0) t (lesser r) (l .bests) (l .inv .1) _ (c .lesser .ensures) p h ∙ l .inv .2 p h,
+    )
 
 returns : tie.Need-returns Inv-loop μ-loop
-returns c = let l = c .before .loop in record { five = l .inv .1; each = λ p h. offered-none _ (c .before .before .args .rank) (l .bests) (c .loop-test .left) p h ∙ l .inv .2 p h }
+returns c = let l = c .before .loop in
+    record { five = l .inv .1; each = λ p h. changed-none (lesser (c .before .before .args .rank)) _ (l .bests) (c .loop-test .left) p h ∙ l .inv .2 p h }
 
 pub offer-spec : {M : Type 1} → statement M
 offer-spec =

@@ -1,4 +1,8 @@
--- `choose::rank` meets its contract, by the test of the offset. Assumes nothing.
+-- `choose::rank` meets its contract: a slot is early unless its offset is at most 0, and a turn of the clock is 256. Assumes nothing.
+use Rattle.rules.specs.Areas.{low, bits}
+use Rattle.rules.specs.Board8.{board8}
+use Rattle.passes.proofs.Ranks.{rank-on-time, rank-early}
+use mathlib.Core.Path.{sym, _∙_}
 use borrow.Author.Needs.{needs}
 use Rattle.choose.proofs.rank.Statement.{statement}
 use Rattle.choose.proofs.rank.Tie as tie
@@ -28,11 +32,12 @@ add-result : tie.Need-add-result
 add-result c = search needs
 
 returns : tie.Need-returns
+unfolding bits low
 returns c = let c₂ = c .before .before in
     let c₃ = c₂ .before in
     let c₄ = c₃ .before in
     let c₅ = c₄ .before in
-    rw (← c₅ .get .ensures, ← c₄ .on-time .ensures, c₃ .if1 .taken, ← c₂ .get2 .ensures, ← c .before .since .ensures)
+    rank-on-time board8 _ _ _ _ _ (c₅ .before .before .pre) (c₅ .get .ensures) (sym (c₄ .on-time .ensures) ∙ c₃ .if1 .taken) _ (c₂ .get2 .ensures) (c .before .since .ensures)
 
 since-requires-2 : tie.Need-since-requires-2
 since-requires-2 c κs = search needs
@@ -53,7 +58,11 @@ add-result-3 : tie.Need-add-result-3
 add-result-3 c = search needs
 
 returns-2 : tie.Need-returns-2
-returns-2 c = rw (← c .before .before .before .before .get .ensures, ← c .before .before .before .on-time .ensures, c .before .before .if1 .left, ← c .before .since2 .ensures)
+unfolding bits low
+returns-2 c = let c₂ = c .before .before in
+    let c₃ = c₂ .before in
+    let c₄ = c₃ .before in
+    rank-early board8 _ _ _ _ _ (c₄ .before .before .pre) (c₄ .get .ensures) (sym (c₃ .on-time .ensures) ∙ c₂ .if1 .left) (c .before .since2 .ensures)
 
 pub rank-spec : {M : Type 1} → statement M
 rank-spec =

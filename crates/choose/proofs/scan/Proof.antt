@@ -1,10 +1,14 @@
 -- `choose::scan` meets its contract. The loop's invariant: `bests` has the least ranks of the slots below `i`; those past `end` change none.
 -- The measure is what is left of `end`. Assumes nothing.
-use Rattle.choose.proofs.Empty.{to-end}
-use Rattle.choose.proofs.Ranking.{bests-start, best-empty}
-use Rattle.choose.specs.Ranks.{best, Bests}
+use Rattle.passes.specs.Ports.{EachPort}
+use Rattle.passes.specs.Ranks.{best}
+use Rattle.passes.proofs.EmptySlots.{to-end}
+use Rattle.passes.proofs.MaskPorts.{each-as}
+use Rattle.passes.proofs.Ranks.{bests-start, best-empty}
+use Rattle.rules.specs.Areas.{low, bits}
+use Rattle.rules.specs.Board8.{board8}
 use native.Mathlib.Numerals.{add-one}
-use mathlib.Core.Path.{_≡_, _∙_}
+use mathlib.Core.Path.{_≡_}
 use Prim.Native.Nat.{ℕ, _-_, _≤_}
 use borrow.Author.Needs.{needs}
 use native.Mathlib.Omega.{arith}
@@ -12,7 +16,7 @@ use Rattle.choose.proofs.scan.Statement.{statement}
 use Rattle.choose.proofs.scan.Tie as tie
 
 abbrev Inv-loop : tie.InvT-loop
-Inv-loop state end t bests₀ i₀ bests i = (i ≤ end) × Bests state i bests
+Inv-loop state end t bests₀ i₀ bests i = (i ≤ end) × EachPort (best board8 state i) bests
 
 abbrev μ-loop : tie.MeasureT-loop
 μ-loop state end t bests₀ i₀ bests i = end - i
@@ -21,7 +25,8 @@ get-requires : tie.Need-get-requires Inv-loop μ-loop
 get-requires c κs = search needs
 
 loop-holds : tie.Need-loop-holds Inv-loop μ-loop
-loop-holds c = (search needs, bests-start _)
+unfolding bits low
+loop-holds c = (search needs, bests-start board8 _)
 
 cast-t10 : tie.Need-cast-t10 Inv-loop μ-loop
 cast-t10 c = search needs
@@ -41,8 +46,7 @@ loop-again c = (search needs, rw (add-one (c .before .before .before .loop .i)) 
 returns : tie.Need-returns Inv-loop μ-loop
 returns c = let c₄ = c .before .before .before .before in
     let e : c .before .loop .i ≡ c₄ .args .end = omega arith in
-    let b = c .before .loop .inv .1 in
-    record { five = b .five; each = λ p h. b .each p h ∙ rw e (to-end (λ (i : ℕ). best _ i p) _ (best-empty _ p h) _ (c₄ .pre)) }
+    each-as (c .before .loop .inv .1) (λ p h. rw e (to-end board8 _ (λ (i : ℕ). best board8 _ i p) (best-empty board8 _ p h) _ (c₄ .pre)))
 
 pub scan-spec : {M : Type 1} → statement M
 scan-spec =

@@ -1,5 +1,7 @@
 -- `settle::give_back` meets its contract: the stores are those of the definition, and emptying the mask leaves n. Assumes nothing.
-use Rattle.settle.proofs.Settling.{free-emptied}
+use Rattle.passes.proofs.GivingBack.{free-emptied}
+use Rattle.rules.proofs.Board8Laws.{lawful8}
+use Rattle.rules.specs.Board8.{board8}
 use borrow.Author.Needs.{needs}
 use native.Mathlib.Omega.{arith}
 use Rattle.settle.proofs.give_back.Statement.{statement}
@@ -18,7 +20,7 @@ add-put-free : tie.Need-add-put-free
 add-put-free c = let c₅ = c .before .before .before .before .before in
     let c₉ = c₅ .before .before .before .before in
     let c₁₂ = c₉ .before .before .before in
-    omega (arith, free-emptied _ _ _ _ (c₁₂ .pre .0) (c₉ .put .ensures) (c₅ .free-count .ensures), c₁₂ .pre .1)
+    omega (arith, free-emptied board8 lawful8 _ _ (c₁₂ .pre .0) (omega arith) _ (c₉ .put .ensures) _ (c₅ .free-count .ensures), c₁₂ .pre .1)
 
 put-free-requires : tie.Need-put-free-requires
 put-free-requires c κs = search needs

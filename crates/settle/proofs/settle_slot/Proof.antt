@@ -1,6 +1,11 @@
--- `settle::settle_slot` meets its contract: at each return a law of `Settling` says what these tests and stores make. Assumes nothing.
-use Rattle.settle.proofs.Settling.{slot-waits, slot-empty, slot-due, slot-sent, slot-left}
+-- `settle::settle_slot` meets its contract: at each return two laws of `Settling` say what these tests and stores make of the counts and of the state.
+-- Assumes nothing.
+use Rattle.passes.proofs.Settling.{slot-waits, slot-empty, slot-due, slot-sent, slot-left, counts-waiting, counts-empty, counts-due}
+use Rattle.rules.specs.Board8.{board8}
+use Rattle.rules.proofs.Board8Laws.{lawful8}
 use mathlib.Core.Path.{sym, _∙_}
+use native.Mathlib.Omega.{arith}
+use borrow.Author.Tests.{not-true}
 use borrow.Author.Needs.{needs}
 use Rattle.settle.proofs.settle_slot.Statement.{statement}
 use Rattle.settle.proofs.settle_slot.Tie as tie
@@ -12,7 +17,11 @@ same-length : tie.Need-same-length
 same-length c = search needs
 
 returns : tie.Need-returns
-returns c = slot-waits _ _ _ _ _ (c .before .before .before .before .if1 .taken) (λ e. c .if2 .taken (c .before .before .get .ensures ∙ e))
+returns c = let c₃ = c .before .before .before in
+    let c₆ = c₃ .before .before .before in
+    let v = c₃ .get .ensures in
+    let d = not-true _ (c .if2 .taken) in
+    (counts-waiting board8 lawful8 _ _ _ _ _ (c₆ .pre .1 .0) _ v d, slot-waits board8 lawful8 _ _ _ _ _ (omega arith) v d (c .before .if1 .taken))
 
 get-requires-2 : tie.Need-get-requires-2
 get-requires-2 c κs = search needs
@@ -21,13 +30,12 @@ same-length-2 : tie.Need-same-length-2
 same-length-2 c = search needs
 
 returns-2 : tie.Need-returns-2
-returns-2 c = slot-empty _ _ _ _ _ _ (c .before .get2 .ensures) (c .if3 .taken)
+returns-2 c = let m = sym (c .before .get2 .ensures) ∙ c .if3 .taken in
+    let c₈ = c .before .before .before .before .before .before .before .before in
+    (counts-empty board8 lawful8 _ _ _ _ _ (c₈ .pre .1 .0) m, slot-empty board8 lawful8 _ _ _ _ (omega arith) m)
 
 sub-left : tie.Need-sub-left
 sub-left c = search needs
-
-get-requires-3 : tie.Need-get-requires-3
-get-requires-3 c κs = search needs
 
 give-back-requires : tie.Need-give-back-requires
 give-back-requires c κs = search needs
@@ -39,11 +47,16 @@ same-length-3 : tie.Need-same-length-3
 same-length-3 c = search needs
 
 returns-3 : tie.Need-returns-3
-returns-3 c = let c₃ = c .before .before .before in
-    let c₅ = c₃ .before .before in
-    let c₇ = c₅ .before .before in
-    let c₉ = c₇ .before .before in
-    slot-due _ _ _ _ _ _ (c₉ .before .get2 .ensures) (c₉ .if3 .left) _ _ (sym (c₇ .get3 .ensures) ∙ c₅ .if4 .taken) (c₃ .give-back .ensures) (c .withdraw .ensures)
+returns-3 c = let c₄ = c .before .before .before .before in
+    let c₆ = c₄ .before .before in
+    let c₇ = c₆ .before in
+    let c₁₂ = c₇ .before .before .before .before .before in
+    let c₁₅ = c₁₂ .before .before .before in
+    let m = c₇ .before .get2 .ensures in
+    let v = c₁₂ .get .ensures in (
+      counts-due board8 lawful8 _ _ _ _ (c₁₅ .args .counts .now) (c₁₅ .pre .1 .0) _ v (c₆ .if4 .taken) _ m _ (c .withdraw .ensures),
+      slot-due board8 lawful8 _ _ _ _ _ _ m v (c₇ .if3 .left) (c₆ .if4 .taken) _ (c₄ .give-back .ensures),
+    )
 
 give-back-requires-2 : tie.Need-give-back-requires-2
 give-back-requires-2 c κs = search needs
@@ -55,9 +68,12 @@ returns-4 : tie.Need-returns-4
 returns-4 c = let c₂ = c .before .before in
     let c₄ = c₂ .before .before in
     let c₅ = c₄ .before in
-    let c₇ = c₅ .before .before in
-    let c₉ = c₇ .before .before in
-    slot-sent _ _ _ _ _ _ (c₉ .before .get2 .ensures) (c₉ .if3 .left) (λ e. c₅ .if4 .left (c₇ .get3 .ensures ∙ e)) _ (c₄ .if5 .taken) (c₂ .give-back2 .ensures)
+    let c₆ = c₅ .before in
+    let c₁₁ = c₆ .before .before .before .before .before in
+    let v = c₁₁ .get .ensures in (
+      counts-waiting board8 lawful8 _ _ _ _ _ (c₁₁ .before .before .before .pre .1 .0) _ v (c₅ .if4 .left),
+      slot-sent board8 lawful8 _ _ _ _ _ _ (c₆ .before .get2 .ensures) v (c₆ .if3 .left) (c₅ .if4 .left) (c₄ .if5 .taken) _ (c₂ .give-back2 .ensures),
+    )
 
 put-requires : tie.Need-put-requires
 put-requires c κs = search needs
@@ -69,9 +85,12 @@ returns-5 : tie.Need-returns-5
 returns-5 c = let c₂ = c .before .before in
     let c₄ = c₂ .before .before in
     let c₅ = c₄ .before in
-    let c₇ = c₅ .before .before in
-    let c₉ = c₇ .before .before in
-    slot-left _ _ _ _ _ _ (c₉ .before .get2 .ensures) (c₉ .if3 .left) (λ e. c₅ .if4 .left (c₇ .get3 .ensures ∙ e)) _ (c₄ .if5 .left) (c₂ .put .ensures)
+    let c₆ = c₅ .before in
+    let c₁₁ = c₆ .before .before .before .before .before in
+    let v = c₁₁ .get .ensures in (
+      counts-waiting board8 lawful8 _ _ _ _ _ (c₁₁ .before .before .before .pre .1 .0) _ v (c₅ .if4 .left),
+      slot-left board8 lawful8 _ _ _ _ _ _ (c₆ .before .get2 .ensures) v (c₆ .if3 .left) (c₅ .if4 .left) (c₄ .if5 .left) _ (c₂ .put .ensures),
+    )
 
 pub settle-slot-spec : {M : Type 1} → statement M
 settle-slot-spec =
@@ -84,7 +103,6 @@ settle-slot-spec =
     same-length-2
     returns-2
     sub-left
-    get-requires-3
     give-back-requires
     withdraw-requires
     same-length-3

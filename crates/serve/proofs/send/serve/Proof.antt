@@ -1,96 +1,104 @@
--- `serve::send::serve` meets its contract: port by port the area is filled, and the sent masks gain the port. Assumes nothing.
-use Rattle.serve.proofs.Sending.{numbers-five, packets-five, length-grantBytes}
-use Rattle.rules.specs.Board8.{board8}
-use Rattle.rules.specs.Areas.{Grant, grantCode}
-use Rattle.rules.specs.Tick.{grant, grantBytes}
-use Prim.Native.Nat.{ℕ}
-use Rattle.serve.specs.Sends.{sends}
-use mathlib.Core.Path.{_∙_}
-use borrow.Author.Needs.{needs}
+-- `serve::send::serve` meets its contract. The loop's invariant: the ports below `p` have filled in their answers and packets, and joined the sent masks.
+-- The measure is how many ports are left. Assumes nothing.
+use Rattle.choose.specs.Grants.{grantAt}
+use Rattle.passes.specs.Sends.{sends}
+use Rattle.passes.proofs.Packets.{filled-number}
+use Rattle.passes.proofs.Sends.{sends-lt}
+use Rattle.rules.specs.Areas.{outgoingLength, packetLength, grantCode, portsBelow}
+use Rattle.rules.specs.Tick.{grantBytes}
+use Rattle.rules.proofs.AreaLaws.{filled, filled-next, filled-all}
+use lib.ListN.{length, replicate}
+use native.Mathlib.Numerals.{add-one}
 use native.Mathlib.Omega.{arith}
+use borrow.Author.Needs.{needs}
+use mathlib.Core.List.{[], _∷_}
+use mathlib.Core.Path.{_≡_, refl, ap, _∙_}
+use Prim.Native.Nat.{ℕ, _-_, _≤_}
 use Rattle.serve.proofs.send.serve.Statement.{statement}
 use Rattle.serve.proofs.send.serve.Tie as tie
 
-array-read-serve-port : tie.Need-array-read-serve-port
-array-read-serve-port c = search needs
+abbrev Inv-loop : tie.InvT-loop
+Inv-loop memory outgoing₀ sent₀ grants codes₀ p₀ outgoing sent codes p =
+    (p ≤ 5) × (length outgoing ≡ length outgoing₀) × (outgoing ≡ filled packetLength (λ q. grantBytes memory (grantAt grants q)) outgoing₀ p)
+    × (codes ≡ filled 1 (λ q. grantCode (grantAt grants q) ∷ []) (replicate 5 0) p) × (sent ≡ sends (grantAt grants) p)
 
-serve-port-requires : tie.Need-serve-port-requires
+abbrev μ-loop : tie.MeasureT-loop
+μ-loop memory outgoing₀ sent₀ grants codes₀ p₀ outgoing sent codes p = 5 - p
+
+loop-holds : tie.Need-loop-holds Inv-loop μ-loop
+unfolding sends portsBelow
+loop-holds c = (search needs, refl, refl, refl, c .before .before .pre .0 .2)
+
+mul-g : tie.Need-mul-g Inv-loop μ-loop
+mul-g c = search needs
+
+array-copy-out-g : tie.Need-array-copy-out-g Inv-loop μ-loop
+array-copy-out-g c = search needs
+
+cast-serve-port : tie.Need-cast-serve-port Inv-loop μ-loop
+cast-serve-port c = search needs
+
+serve-port-requires : tie.Need-serve-port-requires Inv-loop μ-loop
+serve-port-requires c κs = let c₄ = c .before .before .before .before in
+    let l = c₄ .loop in
+    let c₇ = c₄ .before .before .before in
+    ((c₇ .pre .0 .0, l .inv .1 ∙ c₇ .pre .0 .1), (search needs, λ i. rw (l .inv .4) (sends-lt (grantAt (c₇ .args .t4)) (l .p) i)))
+
+array-write-codes : tie.Need-array-write-codes Inv-loop μ-loop
+array-write-codes c = search needs
+
+add-p : tie.Need-add-p Inv-loop μ-loop
+add-p c = search needs
+
+loop-less : tie.Need-loop-less Inv-loop μ-loop
+loop-less c = search needs
+
+loop-again : tie.Need-loop-again Inv-loop μ-loop
 unfolding sends
-serve-port-requires c κs = let c₅ = c .before .before .before .before .before in
-    ((c₅ .pre .0 .0, c₅ .pre .0 .1), ((omega arith, c₅ .pre .1 .0 .each 0 (omega arith)), c₅ .pre .1 .1))
+loop-again c = let c₂ = c .before .before in
+    let c₇ = c₂ .before .before .before .before .before in
+    let l = c₇ .loop in
+    let c₁₀ = c₇ .before .before .before in
+    let g = grantAt (c₁₀ .args .t4) in
+    let m = c₁₀ .args .memory .now in
+    let o = c₁₀ .args .outgoing .now in
+    let n = c₁₀ .pre .0 .1 in
+    let e = c₂ .serve-port .ensures in (
+      search needs,
+      c₂ .serve-port .kept .1 .0 ∙ l .inv .1,
+      rw (add-one (l .p)) (e .1 .0 ∙ rw (l .inv .2) (filled-next packetLength (λ (q : ℕ). grantBytes m (g q)) o (l .p) (λ q h. c₁₀ .pre .1 .1 q (omega arith)) (omega arith))),
+      rw (add-one (l .p), e .0, l .inv .3) (filled-number (λ (q : ℕ). grantCode (g q)) (replicate 5 0) (l .p) (omega arith)),
+      rw (add-one (l .p)) (e .1 .1 ∙ rw (l .inv .4)),
+    )
 
-array-read-serve-port-2 : tie.Need-array-read-serve-port-2
-array-read-serve-port-2 c = search needs
-
-serve-port-requires-2 : tie.Need-serve-port-requires-2
-serve-port-requires-2 c κs = let c₄ = c .before .before .before .before in
-    let c₁₀ = c₄ .before .before .before .before .before .before in
-    ((c₁₀ .pre .0 .0, c₄ .serve-port .kept .1 .1 .0 ∙ c₁₀ .pre .0 .1), ((omega arith, c₁₀ .pre .1 .0 .each 1 (omega arith)), c₄ .serve-port .ensures .1 .1))
-
-array-read-serve-port-3 : tie.Need-array-read-serve-port-3
-array-read-serve-port-3 c = search needs
-
-serve-port-requires-3 : tie.Need-serve-port-requires-3
-serve-port-requires-3 c κs = let c₄ = c .before .before .before .before in
-    let c₉ = c₄ .before .before .before .before .before in
-    let c₁₅ = c₉ .before .before .before .before .before .before in
-    ((c₁₅ .pre .0 .0, c₄ .serve-port2 .kept .1 .1 .0 ∙ c₉ .serve-port .kept .1 .1 .0 ∙ c₁₅ .pre .0 .1), ((omega arith, c₁₅ .pre .1 .0 .each 2 (omega arith)), c₄ .serve-port2 .ensures .1 .1))
-
-array-read-serve-port-4 : tie.Need-array-read-serve-port-4
-array-read-serve-port-4 c = search needs
-
-serve-port-requires-4 : tie.Need-serve-port-requires-4
-serve-port-requires-4 c κs = let c₄ = c .before .before .before .before in
-    let c₉ = c₄ .before .before .before .before .before in
-    let c₁₄ = c₉ .before .before .before .before .before in
-    let c₂₀ = c₁₄ .before .before .before .before .before .before in
-    ((c₂₀ .pre .0 .0, c₄ .serve-port3 .kept .1 .1 .0 ∙ c₉ .serve-port2 .kept .1 .1 .0 ∙ c₁₄ .serve-port .kept .1 .1 .0 ∙ c₂₀ .pre .0 .1), ((omega arith, c₂₀ .pre .1 .0 .each 3 (omega arith)), c₄ .serve-port3 .ensures .1 .1))
-
-array-read-serve-port-5 : tie.Need-array-read-serve-port-5
-array-read-serve-port-5 c = search needs
-
-serve-port-requires-5 : tie.Need-serve-port-requires-5
-serve-port-requires-5 c κs = let c₄ = c .before .before .before .before in
-    let c₉ = c₄ .before .before .before .before .before in
-    let c₁₄ = c₉ .before .before .before .before .before in
-    let c₁₉ = c₁₄ .before .before .before .before .before in
-    let c₂₅ = c₁₉ .before .before .before .before .before .before in
-    ((c₂₅ .pre .0 .0, c₄ .serve-port4 .kept .1 .1 .0 ∙ c₉ .serve-port3 .kept .1 .1 .0 ∙ c₁₄ .serve-port2 .kept .1 .1 .0 ∙ c₁₉ .serve-port .kept .1 .1 .0 ∙ c₂₅ .pre .0 .1), ((omega arith, c₂₅ .pre .1 .0 .each 4 (omega arith)), c₄ .serve-port4 .ensures .1 .1))
-
-same-length : tie.Need-same-length
+same-length : tie.Need-same-length Inv-loop μ-loop
 same-length c = search needs
 
-returns : tie.Need-returns
-returns c = let c₂ = c .before .before in
-    let c₇ = c₂ .before .before .before .before .before in
-    let c₁₂ = c₇ .before .before .before .before .before in
-    let c₁₇ = c₁₂ .before .before .before .before .before in
-    let c₂₂ = c₁₇ .before .before .before .before .before in
-    let c₂₈ = c₂₂ .before .before .before .before .before .before in
-    let s = c₂₈ .args .state .now in
-    let w = c₂₈ .args .waiting in
-    let m = c₂₈ .args .memory .now in
-    let g : ℕ → Grant ℕ = λ p. grant board8 s w p in (
-      numbers-five (λ p. grantCode (g p)) _ _ _ _ _ (c₂₂ .serve-port .ensures .0) (c₁₇ .serve-port2 .ensures .0) (c₁₂ .serve-port3 .ensures .0) (c₇ .serve-port4 .ensures .0) (c₂ .serve-port5 .ensures .0),
-      (
-        packets-five (λ p. grantBytes m (g p)) (c₂₈ .args .outgoing .now) (λ p. length-grantBytes m s w p (c₂₈ .pre .0 .0)) (c₂₈ .pre .0 .1) _ _ _ _ _ (c₂₂ .serve-port .ensures .1 .0) (c₁₇ .serve-port2 .ensures .1 .0) (c₁₂ .serve-port3 .ensures .1 .0) (c₇ .serve-port4 .ensures .1 .0) (c₂ .serve-port5 .ensures .1 .0),
-        c₂ .serve-port5 .ensures .1 .1,
-      ),
+returns : tie.Need-returns Inv-loop μ-loop
+returns c = let l = c .before .loop in
+    let c₄ = c .before .before .before .before in
+    let g = grantAt (c₄ .args .t4) in
+    let m = c₄ .args .memory .now in
+    let o = c₄ .args .outgoing .now in
+    let n : l .p ≡ 5 = omega arith in (
+      l .inv .3 ∙ rw n (filled-all 1 (λ (q : ℕ). grantCode (g q) ∷ []) (replicate 5 0) 5 refl),
+      (l .inv .2 ∙ rw n (filled-all packetLength (λ (q : ℕ). grantBytes m (g q)) o 5 (c₄ .pre .0 .1)), l .inv .4 ∙ rw n),
     )
 
 pub serve-spec : {M : Type 1} → statement M
 serve-spec =
     tie.close
     (tie.spec
-    array-read-serve-port
+    Inv-loop
+    μ-loop
+    loop-holds
+    mul-g
+    array-copy-out-g
+    cast-serve-port
     serve-port-requires
-    array-read-serve-port-2
-    serve-port-requires-2
-    array-read-serve-port-3
-    serve-port-requires-3
-    array-read-serve-port-4
-    serve-port-requires-4
-    array-read-serve-port-5
-    serve-port-requires-5
+    array-write-codes
+    add-p
+    loop-less
+    loop-again
     same-length
     returns)

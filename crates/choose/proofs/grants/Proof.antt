@@ -1,0 +1,75 @@
+-- `choose::grants` meets its contract. The loop's invariant: the grants of the ports below `p` are the definition's, by their least ranks.
+-- The measure is how many ports are left. Assumes nothing.
+use Rattle.choose.proofs.FiveGrants.{granted-next}
+use Rattle.choose.specs.Grants.{Granted}
+use native.Mathlib.Numerals.{add-one}
+use mathlib.Core.Path.{_≡_, refl}
+use Prim.Native.Nat.{_-_, _≤_}
+use borrow.Author.Needs.{needs}
+use native.Mathlib.Omega.{arith}
+use Rattle.choose.proofs.grants.Statement.{statement}
+use Rattle.choose.proofs.grants.Tie as tie
+
+abbrev Inv-loop : tie.InvT-loop
+Inv-loop state end waiting bests grants₀ p₀ grants p = (p ≤ 5) × Granted state waiting p grants
+
+abbrev μ-loop : tie.MeasureT-loop
+μ-loop state end waiting bests grants₀ p₀ grants p = 5 - p
+
+scan-requires : tie.Need-scan-requires Inv-loop μ-loop
+scan-requires c κs = search needs
+
+loop-holds : tie.Need-loop-holds Inv-loop μ-loop
+loop-holds c = (search needs, record { five = refl; each = λ p h. absurd (omega arith) })
+
+cast-choose : tie.Need-cast-choose Inv-loop μ-loop
+cast-choose c = search needs
+
+mul-choose : tie.Need-mul-choose Inv-loop μ-loop
+mul-choose c = search needs
+
+array-read-choose : tie.Need-array-read-choose Inv-loop μ-loop
+array-read-choose c = search needs
+
+choose-requires : tie.Need-choose-requires Inv-loop μ-loop
+choose-requires c κs = (search needs, c .before .before .scan .ensures .each _ (omega arith))
+
+mul-grants : tie.Need-mul-grants Inv-loop μ-loop
+mul-grants c = search needs
+
+array-set-from-grants : tie.Need-array-set-from-grants Inv-loop μ-loop
+array-set-from-grants c = search needs
+
+add-p : tie.Need-add-p Inv-loop μ-loop
+add-p c = search needs
+
+loop-less : tie.Need-loop-less Inv-loop μ-loop
+loop-less c = search needs
+
+loop-again : tie.Need-loop-again Inv-loop μ-loop
+loop-again c = let l = c .before .before .loop in
+    (search needs, rw (add-one (l .p)) (granted-next _ _ _ (omega arith) _ (l .inv .1) _ (c .choose .ensures)))
+
+returns : tie.Need-returns Inv-loop μ-loop
+returns c = let l = c .before .loop in
+    let e : l .p ≡ 5 = omega arith in
+    rw (← e) (l .inv .1)
+
+pub grants-spec : {M : Type 1} → statement M
+grants-spec =
+    tie.close
+    (tie.spec
+    Inv-loop
+    μ-loop
+    scan-requires
+    loop-holds
+    cast-choose
+    mul-choose
+    array-read-choose
+    choose-requires
+    mul-grants
+    array-set-from-grants
+    add-p
+    loop-less
+    loop-again
+    returns)
