@@ -4,10 +4,10 @@ use mathlib.Core.Path.{_≡_, sym, _∙_}
 use native.Mathlib.Omega.{arith}
 use lib.ListN.{drop, length-drop}
 use lib.Seq.{take-all}
-use Rattle.tapes.proofs.Stores.{rest}
 use borrow.Author.Needs.{needs}
-use Rattle.tapes.proofs.stepping.record_end.Statement.{statement}
-use Rattle.tapes.proofs.stepping.record_end.Tie as tie
+use Rattle.records.proofs.Parts.{take-to-end}
+use Rattle.records.proofs.record_end.Statement.{statement}
+use Rattle.records.proofs.record_end.Tie as tie
 
 sub-if1 : tie.Need-sub-if1
 sub-if1 c = search needs
@@ -22,9 +22,9 @@ returns c =
 
 returns-2 : tie.Need-returns-2
 returns-2 c =
-    let b = c .before .args .block .now in
+    let b = c .before .args .input .now in
     let s = c .before .args .start in
-    (search needs, search needs, rest b s ∙ sym (take-all 24 (drop s b) (rw (length-drop s b) (omega arith))))
+    (search needs, search needs, take-to-end b s ∙ sym (take-all 24 (drop s b) (rw (length-drop s b) (omega arith))))
 
 pub record-end-spec : {M : Type 1} → statement M
 record-end-spec = tie.close (tie.spec sub-if1 add-result returns returns-2)

@@ -1,15 +1,18 @@
--- `take_arrival` meets its contract: the packet is copied, the record's number and the port's bit are stored. Assumes nothing.
-use Rattle.tapes.specs.Tape.{takeArrival}
-use Rattle.tapes.proofs.Stores.{rest}
+-- `take_arrival` meets its contract: the port's bit and the record's number are stored, and the packet is copied. Assumes nothing.
 use borrow.Author.Needs.{needs}
-use Rattle.tapes.proofs.stepping.take_arrival.Statement.{statement}
-use Rattle.tapes.proofs.stepping.take_arrival.Tie as tie
+use Rattle.records.proofs.Parts.{take-to-end}
+use Rattle.events.specs.Tape.{takeArrival}
+use Rattle.events.proofs.take_arrival.Statement.{statement}
+use Rattle.events.proofs.take_arrival.Tie as tie
 
 shared-slice-read-port : tie.Need-shared-slice-read-port
 shared-slice-read-port c = search needs
 
-cast-port : tie.Need-cast-port
-cast-port c = search needs
+with-port-requires : tie.Need-with-port-requires
+with-port-requires c κs = search needs
+
+cast-place : tie.Need-cast-place
+cast-place c = search needs
 
 mul-records : tie.Need-mul-records
 mul-records c = search needs
@@ -32,25 +35,23 @@ mul-copy-in c = search needs
 copy-in-requires : tie.Need-copy-in-requires
 copy-in-requires c κs = search needs
 
-shared-slice-read-with-port : tie.Need-shared-slice-read-with-port
-shared-slice-read-with-port c = search needs
-
-with-port-requires : tie.Need-with-port-requires
-with-port-requires c κs = search needs
-
 same-length : tie.Need-same-length
 same-length c = search needs
 
 returns : tie.Need-returns
 unfolding takeArrival
-returns c = λ state memory. rw (c .with-port .ensures, c .before .before .before .before .copy-in .ensures, rest (c .before .before .before .before .before .before .before .before .before .before .before .args .bytes .now) 4)
+returns c =
+    let copied = c .before .before in
+    let stored = copied .before .before .before .before in
+    λ state memory. rw (stored .with-port .ensures, copied .copy-in .ensures, take-to-end (stored .before .before .before .before .args .bytes .now) 4)
 
 pub take-arrival-spec : {M : Type 1} → statement M
 take-arrival-spec =
     tie.close
     (tie.spec
     shared-slice-read-port
-    cast-port
+    with-port-requires
+    cast-place
     mul-records
     array-write-records
     sub-copy-in
@@ -58,7 +59,5 @@ take-arrival-spec =
     part-copy-in-end
     mul-copy-in
     copy-in-requires
-    shared-slice-read-with-port
-    with-port-requires
     same-length
     returns)
