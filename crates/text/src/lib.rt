@@ -20,7 +20,7 @@ pub fn put_char(lines: &mut [u8], at: usize, b: u8) -> usize
 }
 
 // Given characters.
-pub fn put_text(lines: &mut [u8], at: usize, text: &[u8]) -> usize
+fn put_text(lines: &mut [u8], at: usize, text: &[u8]) -> usize
     requires { ⌜ at + length (now text) ≤ length (now lines) ⌝ }
     ensures { λ r. ⌜ Put (now (text .entry)) at (now (lines .entry)) (now (lines .exit)) r ⌝ }
 {

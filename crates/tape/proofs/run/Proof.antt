@@ -82,7 +82,7 @@ loop-less : tie.Need-loop-less Inv-loop μ-loop
 loop-less c =
     let test = c .before .before .before .before .before .before .before .before .before .before .before .before .before .before .before .before .before .before in
     let l = test .before .before .loop in
-    omega (arith, ltb-true (l .blocks) 1099511627776 (and-right (l .end .more) _ (test .if1 .taken)))
+    omega (arith, ltb-true (l .blocks) _ (and-right (l .end .more) _ (test .if1 .taken)))
 
 loop-again : tie.Need-loop-again Inv-loop μ-loop
 loop-again c =
@@ -91,7 +91,7 @@ loop-again c =
     let l = test .before .before .loop in
     let t = turned .turn2 in
     let before = l .inv .8 (and-left _ _ (test .if1 .taken)) in
-    let below = ltb-true (l .blocks) 1099511627776 (and-right (l .end .more) _ (test .if1 .taken)) in
+    let below = ltb-true (l .blocks) _ (and-right (l .end .more) _ (test .if1 .taken)) in
     let more = turn-more _ _ (take (t .result .count) (t .last .1 .1 .1 .1 .0)) _ (t .ensures .0) (before .0) _ (t .ensures .1 .0 .1) (t .result .written) _ (t .ensures .1 .1) in (
       search needs,
       search needs,
@@ -122,7 +122,7 @@ same-length-5 c = search needs
 returns : tie.Need-returns Inv-loop μ-loop
 returns c =
     let l = c .before .before .loop in
-    (l .inv .6, (l .inv .7, λ e. omega (arith, l .inv .8 e .1, l .inv .5, ltb-false (l .blocks) 1099511627776 (rw e at (c .if1 .left)))))
+    (l .inv .6, (l .inv .7, λ e. omega (arith, l .inv .8 e .1, l .inv .5, ltb-false (l .blocks) _ (rw e at (c .if1 .left)))))
 
 pub run-spec : {M : Type 1} → statement M
 run-spec =

@@ -14,7 +14,7 @@ byte-requires c κs = search needs
 
 returns : tie.Need-returns
 unfolding refusedArrival
-returns c = (rw (← c .before .byte .ensures, lt-leb _ _ (c .if1 .taken)) (put-nothing _ _), search needs)
+returns c = (rw (← c .before .byte .ensures, lt-leb 6 _ (c .if1 .taken)) (put-nothing _ _), search needs)
 
 mul-put-refused : tie.Need-mul-put-refused
 mul-put-refused c = search needs
@@ -32,7 +32,7 @@ returns-2 : tie.Need-returns-2
 unfolding refusedArrival
 returns-2 c =
     let asked = c .before .before .before .before in
-    (rw (← asked .before .byte .ensures, le-leb _ _ (asked .if1 .left)) (c .before .before .put-refused .ensures .0), search needs)
+    (rw (← asked .before .byte .ensures, le-leb 6 _ (asked .if1 .left)) (c .before .before .put-refused .ensures .0), search needs)
 
 pub put-refused-arrival-spec : {M : Type 1} → statement M
 put-refused-arrival-spec =
