@@ -43,11 +43,11 @@ module _ (σ : Tape) (k : ℕ) (r out ans : List ℕ) (lo : length out ≡ outgo
       cases false e = rw e
 
 -- A fresh router and arrivals that are cleared are the tape's start.
-pub begun : (s t : Store) (n : ℕ) (a x : List ℕ) → length (s .state) ≡ board8 .stateLength → length (s .memory) ≡ memoryLength → length a ≡ arrivalsLength
+pub start-fresh : (s t : Store) (n : ℕ) (a x : List ℕ) → length (s .state) ≡ board8 .stateLength → length (s .memory) ≡ memoryLength → length a ≡ arrivalsLength
     → _≡_ {A = Outcome} (record { reply = numberReply n; store = t }) (makeFresh board8 s 0)
     → x ≡ sets a 0 (replicate arrivalsLength 0)
     → _≡_ {A = Tape} (record { store = t; pending = 0; records = replicate 5 0; arrivals = x }) start
 unfolding start makeFresh full
-begun s t n a x hs hm ha e h =
+start-fresh s t n a x hs hm ha e h =
     let f : t ≡ fresh board8 0 = ap (λ (o : Outcome). o .store) (rw (hs, hm) at e) in
     rw (f, h, sets-eq (replicate arrivalsLength 0) a 0 (omega arith), drop-of-length-le a {i = arrivalsLength} (omega arith))

@@ -1,7 +1,7 @@
--- `begin` meets its contract: the router's own outcome, and arrivals of zero bytes (`begun` of Taking). Assumes nothing.
+-- `begin` meets its contract: the router's own outcome, and arrivals of zero bytes (`start-fresh` of Taking). Assumes nothing.
 use borrow.Author.Needs.{needs}
 use Rattle.rules.specs.Areas.{Store}
-use Rattle.events.proofs.Taking.{begun}
+use Rattle.events.proofs.Taking.{start-fresh}
 use Rattle.events.proofs.begin.Statement.{statement}
 use Rattle.events.proofs.begin.Tie as tie
 
@@ -30,7 +30,7 @@ returns c =
     let start = made .before .before .before .before .before .before in
     let p = start .pre in
     let s : Store = record { state = start .args .state .now; memory = start .args .memory .now } in
-    begun s _ _ (start .args .arrivals .now) _ (p .0) (p .1) (p .2) (made .router-fresh .ensures) (copied .copy-in .ensures)
+    start-fresh s _ _ (start .args .arrivals .now) _ (p .0) (p .1) (p .2) (made .router-fresh .ensures) (copied .copy-in .ensures)
 
 pub begin-spec : {M : Type 1} → statement M
 begin-spec =

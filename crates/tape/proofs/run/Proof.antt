@@ -31,7 +31,7 @@ module _ (p q : Place) (b l : List ℕ) (e : _≡_ {A = Turned} (record { place 
 abbrev Inv-loop : tie.InvT-loop
 Inv-loop state₀ memory₀ arrivals₀ block₀ lines₀ end₀ blocks₀ state memory arrivals block lines end blocks =
     let p = placeOf state memory arrivals (end .turned .place) in
-    (length state ≡ length state₀) × (length memory ≡ length memory₀) × (length arrivals ≡ length arrivals₀) × (length block ≡ length block₀) × (length lines ≡ length lines₀)
+    ((length state ≡ length state₀) × (length memory ≡ length memory₀) × (length arrivals ≡ length arrivals₀) × (length block ≡ length block₀) × (length lines ≡ length lines₀))
     × (blocks ≤ 1099511627776) × Reached (take (end .count) block) p × (end .more ≡ (eqb (end .count) (1024 * recordLength) && end .written))
     × (end .more ≡ true → Passed p × (p .number ≡ 1024 * blocks))
 
@@ -50,17 +50,8 @@ loop-holds c =
     let t = turned .turn in
     let begun = turned .before .before .before .before .before .before .before .before .before .before .before .before .begin .ensures in
     let passed = passed-none _ begun in
-    let more = turn-more _ _ (take (t .result .count) (t .last .1 .1 .1 .1 .0)) _ (t .ensures .0) passed _ (t .ensures .1 .0 .1) (t .result .written) _ (t .ensures .1 .1) in (
-      refl,
-      refl,
-      refl,
-      refl,
-      refl,
-      search needs,
-      turn-reached _ _ _ _ (t .ensures .0) passed,
-      t .ensures .1 .1,
-      λ e. (more e .0, more e .1 ∙ ap (λ (p : Place). p .number + 1024) begun),
-    )
+    let more = turn-more _ _ (take (t .result .count) (t .last .1 .1 .1 .1 .0)) _ (t .ensures .0) passed _ (t .ensures .1 .0 .1) (t .result .written) _ (t .ensures .1 .1) in
+    (search needs, search needs, turn-reached _ _ _ _ (t .ensures .0) passed, t .ensures .1 .1, λ e. (more e .0, more e .1 ∙ ap (λ (p : Place). p .number + 1024) begun))
 
 turn-requires-2 : tie.Need-turn-requires-2 Inv-loop μ-loop
 turn-requires-2 c κs =
@@ -72,11 +63,11 @@ turn-requires-2 c κs =
     let arrivals = block .before .before in
     let begun = arrivals .before .before .before .before .before .before .before .before .before .before .before .before in
     let p = begun .before .before .before .before .before .before .before .before .before .before .before .before .before .before .pre in
-    let n = l .inv .8 (and-left _ _ (test .if1 .taken)) .1 in
-    (omega (arith, l .inv .2, arrivals .arrivals2 .given, begun .arrivals .given, p .2), omega (arith, l .inv .3, block .block .given, p .3), omega (arith, l .inv .4, lines .lines .given, p .4), omega (arith, n, l .inv .5))
+    let n = l .inv .4 (and-left _ _ (test .if1 .taken)) .1 in
+    (omega (arith, l .inv .0 .2, arrivals .arrivals2 .given, begun .arrivals .given, p .2), omega (arith, l .inv .0 .3, block .block .given, p .3), omega (arith, l .inv .0 .4, lines .lines .given, p .4), omega (arith, n, l .inv .1))
 
 add-blocks : tie.Need-add-blocks Inv-loop μ-loop
-add-blocks c = omega (arith, c .before .before .before .before .before .before .before .before .before .before .before .before .before .before .before .before .before .before .before .before .loop .inv .5)
+add-blocks c = omega (arith, c .before .before .before .before .before .before .before .before .before .before .before .before .before .before .before .before .before .before .before .before .loop .inv .1)
 
 loop-less : tie.Need-loop-less Inv-loop μ-loop
 loop-less c =
@@ -90,19 +81,10 @@ loop-again c =
     let test = turned .before .before .before .before .before .before .before .before in
     let l = test .before .before .loop in
     let t = turned .turn2 in
-    let before = l .inv .8 (and-left _ _ (test .if1 .taken)) in
+    let before = l .inv .4 (and-left _ _ (test .if1 .taken)) in
     let below = ltb-true (l .blocks) _ (and-right (l .end .more) _ (test .if1 .taken)) in
-    let more = turn-more _ _ (take (t .result .count) (t .last .1 .1 .1 .1 .0)) _ (t .ensures .0) (before .0) _ (t .ensures .1 .0 .1) (t .result .written) _ (t .ensures .1 .1) in (
-      search needs,
-      search needs,
-      search needs,
-      search needs,
-      search needs,
-      omega arith,
-      turn-reached _ _ _ _ (t .ensures .0) (before .0),
-      t .ensures .1 .1,
-      λ e. (more e .0, omega (arith, more e .1, before .1)),
-    )
+    let more = turn-more _ _ (take (t .result .count) (t .last .1 .1 .1 .1 .0)) _ (t .ensures .0) (before .0) _ (t .ensures .1 .0 .1) (t .result .written) _ (t .ensures .1 .1) in
+    (search needs, omega arith, turn-reached _ _ _ _ (t .ensures .0) (before .0), t .ensures .1 .1, λ e. (more e .0, omega (arith, more e .1, before .1)))
 
 same-length : tie.Need-same-length Inv-loop μ-loop
 same-length c = search needs
@@ -122,7 +104,7 @@ same-length-5 c = search needs
 returns : tie.Need-returns Inv-loop μ-loop
 returns c =
     let l = c .before .before .loop in
-    (l .inv .6, (l .inv .7, λ e. omega (arith, l .inv .8 e .1, l .inv .5, ltb-false (l .blocks) _ (rw e at (c .if1 .left)))))
+    (l .inv .2, (l .inv .3, λ e. omega (arith, l .inv .4 e .1, l .inv .1, ltb-false (l .blocks) _ (rw e at (c .if1 .left)))))
 
 pub run-spec : {M : Type 1} → statement M
 run-spec =

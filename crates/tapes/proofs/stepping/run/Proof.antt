@@ -19,8 +19,8 @@ use Rattle.tapes.proofs.stepping.run.Tie as tie
 abbrev Inv-loop : tie.InvT-loop
 Inv-loop state₀ memory₀ arrivals₀ block lines₀ count number pending₀ at₀ i₀ state memory arrivals lines pending at i =
     let o = after (tapeOf state₀ memory₀ arrivals₀ pending₀) number block i in
-    (i ≤ count) × (length state ≡ length state₀) × (length memory ≡ length memory₀) × (length arrivals ≡ length arrivals₀) × (length lines ≡ length lines₀)
-    × (at ≤ 161 * i) × (tapeOf state memory arrivals pending ≡ o .tape) × Put (linesOf (o .events)) 0 lines₀ lines at
+    ((i ≤ count) × (at ≤ 161 * i) × (length state ≡ length state₀) × (length memory ≡ length memory₀) × (length arrivals ≡ length arrivals₀) × (length lines ≡ length lines₀))
+    × (tapeOf state memory arrivals pending ≡ o .tape) × Put (linesOf (o .events)) 0 lines₀ lines at
 
 abbrev μ-loop : tie.MeasureT-loop
 μ-loop state₀ memory₀ arrivals₀ block lines₀ count number pending₀ at₀ i₀ state memory arrivals lines pending at i = count - i
@@ -30,7 +30,7 @@ add-count c = search needs
 
 loop-holds : tie.Need-loop-holds Inv-loop μ-loop
 unfolding after linesOf
-loop-holds c = (search needs, refl, refl, refl, refl, search needs, refl, put-nothing _ _)
+loop-holds c = (search needs, refl, put-nothing _ _)
 
 mul-start : tie.Need-mul-start Inv-loop μ-loop
 mul-start c = search needs
@@ -67,18 +67,8 @@ loop-again c =
     let stepped = c .before .before .before .before .before .before .before .before .before in
     let ended = stepped .before .before .before .before .before .before in
     let l = ended .before .before .loop in
-    let a = ended .before .before .before .before .before .before .before .before .before .args in
-    let σ = tapeOf (a .state .now) (a .memory .now) (a .arrivals .now) (a .place .pending) in
-    let e = rw (ended .record-end .ensures .2) at (stepped .step .ensures) in (
-      search needs,
-      search needs,
-      search needs,
-      search needs,
-      search needs,
-      search needs,
-      tape-then σ (a .place .number) (a .block .now) (l .i) _ (l .inv .6) _ (e .0),
-      lines-then σ (a .place .number) (a .block .now) (l .i) _ (l .inv .6) (l .inv .7) (e .1 .0),
-    )
+    let e = rw (ended .record-end .ensures .2) at (stepped .step .ensures) in
+    (search needs, tape-then _ _ _ (l .i) _ (l .inv .1) _ (e .0), lines-then _ _ _ (l .i) _ (l .inv .1) (l .inv .2) (e .1 .0))
 
 add-t35 : tie.Need-add-t35 Inv-loop μ-loop
 add-t35 c = search needs
@@ -101,7 +91,7 @@ returns c =
     let a = c .before .before .before .before .before .before .before .before .args in
     let p = placeOf (a .state .now) (a .memory .now) (a .arrivals .now) (a .place) in
     let fits : l .at ≤ length (a .lines .now) = search needs in
-    (turned-all p (a .block .now) (l .i) (omega arith) _ _ (l .inv .6) (take-put (l .inv .7) fits), fits)
+    (turned-all p (a .block .now) (l .i) (omega arith) _ _ (l .inv .1) (take-put (l .inv .2) fits), fits)
 
 pub run-spec : {M : Type 1} → statement M
 run-spec =
