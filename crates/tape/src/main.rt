@@ -45,8 +45,9 @@ fn read_block(block: &mut [u8]) -> usize
 {
     let mut n: usize = 0;
     while n < block.len() {
-        let got = libc::read(STDIN_FILENO, &mut block[n..]);
-        let count = io::count(got, &block[n..]);
+        let rest = &mut block[n..];
+        let got = libc::read(STDIN_FILENO, rest);
+        let count = io::count(got, rest);
         if count == 0 {
             return last_bytes(n, got);
         }
