@@ -1,7 +1,7 @@
 -- `tape::run` meets its contract and ends. The loop's invariant: the areas keep their lengths, the place is reached by the blocks read so far, and where there is more to come those were full.
 -- The measure is what is left of the bound on blocks. Assumes nothing.
 use Prim.Native.Nat.{ℕ, _+_, _*_, _-_, _≤_}
-use mathlib.Core.Path.{_≡_, refl, sym, ap, _∙_}
+use mathlib.Core.Path.{_≡_, sym, ap, _∙_}
 use mathlib.Core.Bool.{Bool, true, _&&_}
 use mathlib.Core.List.{List}
 use native.Mathlib.Omega.{arith}
