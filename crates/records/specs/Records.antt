@@ -1,5 +1,5 @@
--- A tape record's questions 9 to 12 (document 01, "Per tape record"). Assumes nothing.
-use Prim.Native.Nat.{ℕ}
+-- A tape's records, and their questions 9 to 12 (document 01, "Tape program" and "Per tape record"). Assumes nothing.
+use Prim.Native.Nat.{ℕ, _+_, _-_, _*_, _/_}
 use mathlib.Core.Bool.{Bool, true, cond, _&&_}
 use mathlib.Core.List.{List, [], _∷_}
 use lib.ListN.{length, take, drop}
@@ -8,29 +8,52 @@ use Rattle.rules.specs.Areas.{byte, has}
 use Rattle.records.specs.declared.Answer.{Answer}
 use Rattle.records.specs.declared.Answer.the-variants.{Accepted, Short, UnknownKind, Unused, Occupied}
 
--- Every byte is zero.
+-- Records of 24 bytes, no header: how many an input has, and its i-th from 0 on. A rest of fewer bytes is the last.
+abbrev pub recordLength : ℕ
+recordLength = 24
+
+abbrev pub recordsIn : List ℕ → ℕ
+recordsIn input = (length input + 23) / recordLength
+
+abbrev pub recordAt : List ℕ → ℕ → List ℕ
+recordAt input i = take recordLength (drop (recordLength * i) input)
+
+-- Byte 0 is the kind: 43h control, 41h arrival, 54h tick.
+abbrev pub controlKind : ℕ
+controlKind = 67
+
+abbrev pub arrivalKind : ℕ
+arrivalKind = 65
+
+abbrev pub tickKind : ℕ
+tickKind = 84
+
+-- Every byte is zero, of a list and of the part between two places.
 unfoldable pub blank : List ℕ → Bool
 blank [] = true
 blank (x ∷ l) = eqb x 0 && blank l
 
--- Are unused bytes zero, those from i on?
+abbrev pub blankPart : List ℕ → ℕ → ℕ → Bool
+blankPart r from to = blank (take (to - from) (drop from r))
+
+-- Are unused bytes zero, those from a place on?
 unfoldable pub unusedRefusal : List ℕ → ℕ → ℕ
-unusedRefusal r i = cond (blank (drop i r)) 0 11
+unusedRefusal r from = cond (blankPart r from recordLength) 0 11
 
--- Of an arrival: are unused bytes zero and is the port at most 4, is that port without a packet?
+-- Of an arrival: are unused bytes zero and is the port at most 4, is that port without a packet for the coming tick?
 unfoldable pub arrivalRefusal : ℕ → List ℕ → ℕ
-arrivalRefusal waiting r = cond (blank (take 2 (drop 2 r)) && leb (byte r 1) 4) (cond (has waiting (byte r 1)) 12 0) 11
+arrivalRefusal pending r = cond (blankPart r 2 4 && leb (byte r 1) 4) (cond (has pending (byte r 1)) 12 0) 11
 
--- Is the kind known? 43h is a control write, 41h an arrival, 54h a tick.
+-- Is the kind known?
 unfoldable pub kindRefusal : ℕ → List ℕ → ℕ
-kindRefusal waiting r =
-    cond (eqb (byte r 0) 67) (unusedRefusal r 3)
-    (cond (eqb (byte r 0) 65) (arrivalRefusal waiting r)
-    (cond (eqb (byte r 0) 84) (unusedRefusal r 2) 10))
+kindRefusal pending r =
+    cond (eqb (byte r 0) controlKind) (unusedRefusal r 3)
+    (cond (eqb (byte r 0) arrivalKind) (arrivalRefusal pending r)
+    (cond (eqb (byte r 0) tickKind) (unusedRefusal r 2) 10))
 
 -- Are there 24 bytes?
 unfoldable pub recordRefusal : ℕ → List ℕ → ℕ
-recordRefusal waiting r = cond (eqb (length r) 24) (kindRefusal waiting r) 9
+recordRefusal pending r = cond (eqb (length r) recordLength) (kindRefusal pending r) 9
 
 -- The number of each answer.
 abbrev pub numberOf : Answer → ℕ

@@ -1,10 +1,13 @@
 // The tape program: records from standard input, their lines to standard output. What can't be read or written is said on standard error.
-ghost use Prim.Native.Nat.{_≤_, _<_, _^_};
+ghost use Prim.Native.Nat.{_*_, _≤_, _<_, _^_};
 ghost use mathlib.Core.Path.{_≡_};
 ghost use mathlib.Core.Bool.{true, _&&_};
 ghost use lib.ListN.{length, take};
 ghost use lib.Dec.{eqb};
 ghost use Rattle.io.specs.Counts.{Counts};
+ghost use Rattle.rules.specs.Areas.{memoryLength, arrivalsLength};
+ghost use Rattle.rules.specs.Board8.{board8};
+ghost use Rattle.records.specs.Records.{recordLength};
 ghost use Rattle.tapes.specs.Blocks as Blocks;
 ghost use Rattle.tapes.specs.Values.{placeOf};
 use layout::Router;
@@ -15,10 +18,12 @@ use tapes::stepping;
 use tapes::stepping::Place;
 use tapes::stepping::Turned;
 
-// 1,024 records, and room for 161 characters of lines for each, as `stepping::run` asks.
-const BLOCK: usize = 24576;
+// A block has 1,024 records, and room for 161 characters of lines for each, as `stepping::run` asks.
+const RECORDS: usize = 1024;
 
-const LINES: usize = 164864;
+const BLOCK: usize = RECORDS * records::RECORD;
+
+const LINES: usize = RECORDS * 161;
 
 // A tape is read to its end, or to 2 ^ 40 blocks, which are 2 ^ 50 records and more than any disk holds.
 const BLOCKS: u64 = 1099511627776;
@@ -40,8 +45,9 @@ fn read_block(block: &mut [u8]) -> usize
 {
     let mut n: usize = 0;
     while n < block.len() {
-        let got = libc::read(STDIN_FILENO, &mut block[n..]);
-        let count = io::count(got, &block[n..]);
+        let rest = &mut block[n..];
+        let got = libc::read(STDIN_FILENO, rest);
+        let count = io::count(got, rest);
         if count == 0 {
             return last_bytes(n, got);
         }
@@ -76,12 +82,12 @@ fn turn(
     block: &mut [u8],
     lines: &mut [u8],
 ) -> TurnEnd
-    requires { ⌜ (length (now arrivals) ≡ 100) × (length (now block) ≡ 24576) × (length (now lines) ≡ 164864) × (place .number < 2 ^ 58) ⌝ }
+    requires { ⌜ (length (now arrivals) ≡ arrivalsLength) × (length (now block) ≡ 1024 * recordLength) × (length (now lines) ≡ 1024 * 161) × (place .number < 2 ^ 58) ⌝ }
     ensures { λ r. ⌜ _≡_ {A = Blocks.Turned}
         (record { place = placeOf (now (state .exit)) (now (memory .exit)) (now (arrivals .exit)) (r .turned .place); lines = take (r .turned .length) (now (lines .exit)) })
         (Blocks.turned (placeOf (now (state .entry)) (now (memory .entry)) (now (arrivals .entry)) place) (take (r .count) (now (block .exit)))) ⌝ }
     ensures { λ r. ⌜ Counts (r .count) (now (block .exit)) ⌝ }
-    ensures { λ r. ⌜ r .more ≡ (eqb (r .count) 24576 && r .written) ⌝ }
+    ensures { λ r. ⌜ r .more ≡ (eqb (r .count) (1024 * recordLength) && r .written) ⌝ }
 {
     let count = read_block(block);
     let turned = stepping::run(state, memory, arrivals, place, &block[..count], lines);
@@ -104,23 +110,21 @@ fn run(
     block: &mut [u8],
     lines: &mut [u8],
 ) -> TurnEnd
-    requires { ⌜ (length (now state) ≡ 1804) × (length (now memory) ≡ 5120) × (length (now arrivals) ≡ 100) × (length (now block) ≡ 24576) × (length (now lines) ≡ 164864) ⌝ }
+    requires { ⌜ (length (now state) ≡ board8 .stateLength) × (length (now memory) ≡ memoryLength) × (length (now arrivals) ≡ arrivalsLength) × (length (now block) ≡ 1024 * recordLength) × (length (now lines) ≡ 1024 * 161) ⌝ }
     ensures { λ r. ⌜ Blocks.Reached (take (r .count) (now (block .exit))) (placeOf (now (state .exit)) (now (memory .exit)) (now (arrivals .exit)) (r .turned .place)) ⌝ }
-    ensures { λ r. ⌜ r .more ≡ (eqb (r .count) 24576 && r .written) ⌝ }
+    ensures { λ r. ⌜ r .more ≡ (eqb (r .count) (1024 * recordLength) && r .written) ⌝ }
     ensures { λ r. ⌜ (r .more ≡ true → r .turned .place .number ≡ 2 ^ 50) ⌝ }
 {
-    let mut place = stepping::begin(state, memory, arrivals);
+    let place = stepping::begin(state, memory, arrivals);
+    let mut end = turn(state, memory, arrivals, place, block, lines);
     let mut blocks: u64 = 1;
-    while blocks < BLOCKS {
-        let end = turn(state, memory, arrivals, place, block, lines);
-        if !end.more {
-            return end;
-        }
+    while end.more & (blocks < BLOCKS) {
         let turned = end.turned;
-        place = turned.place;
+        let place = turned.place;
+        end = turn(state, memory, arrivals, place, block, lines);
         blocks += 1;
     }
-    turn(state, memory, arrivals, place, block, lines)
+    end
 }
 
 fn main() {

@@ -1,4 +1,2 @@
-pub mod Stores
-pub mod Texts
-pub mod Steps
+pub mod Lines
 pub mod Blocks

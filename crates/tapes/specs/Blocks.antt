@@ -3,14 +3,16 @@ use Prim.Native.Nat.{ℕ, _+_, _%_}
 use mathlib.Core.Path.{_≡_}
 use mathlib.Core.List.{List, [], _∷_, _++_, flatten}
 use lib.ListN.{length}
-use Rattle.tapes.specs.Tape.{Tape, start, after, recordsIn, printed}
+use Rattle.records.specs.Records.{recordLength, recordsIn}
+use Rattle.events.specs.Tape.{Tape, start, after}
+use Rattle.tapes.specs.Printed.{linesOf, printed}
 
 -- Between blocks: the tape, and how many records it has had.
 pub record Place : Type 0 where
   pub tape : Tape
   pub number : ℕ
 
-unfoldable pub begin : Place
+abbrev pub begin : Place
 begin = record { tape = start; number = 0 }
 
 -- One turn of the loop, `stepping::run` of the bytes that were read: the place after them, and their lines.
@@ -21,7 +23,7 @@ pub record Turned : Type 0 where
 unfoldable pub turned : Place → List ℕ → Turned
 turned p block =
     let o = after (p .tape) (p .number) block (recordsIn block) in
-    record { place = record { tape = o .tape; number = p .number + recordsIn block }; lines = o .lines }
+    record { place = record { tape = o .tape; number = p .number + recordsIn block }; lines = linesOf (o .events) }
 
 -- The loop, over the blocks in the order of their reading: each turn gets the place that the last left, and its lines come after those before.
 unfoldable pub looped : Place → List (List ℕ) → Turned
@@ -34,7 +36,7 @@ looped p (block ∷ blocks) =
 -- Each block has whole records only.
 unfoldable pub Whole : List (List ℕ) → Type 0
 Whole [] = Unit {0}
-Whole (block ∷ blocks) = (length block % 24 ≡ 0) × Whole blocks
+Whole (block ∷ blocks) = (length block % recordLength ≡ 0) × Whole blocks
 
 -- The claim. Of the last block nothing is asked: it may be empty, or end in a rest of fewer than 24 bytes.
 unfoldable pub BlocksPrintTheTape : Type 0

@@ -1,3 +1,3 @@
-pub mod Tape
+pub mod Printed
 pub mod Blocks
 pub mod Values

@@ -1,3 +1,3 @@
-// A tape's records, what they come to, and the lines that they cause.
+// What `tape` prints: the lines of what its records come to, and blocks of records.
 pub mod printing;
 pub mod stepping;

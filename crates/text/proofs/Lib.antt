@@ -1,2 +1,2 @@
-pub mod Stores
-pub mod Texts
+pub mod Put
+pub mod Numbers

@@ -3,24 +3,24 @@ use Prim.Native.Nat.{ℕ, zero, suc, _+_, _*_, _/_, _%_}
 use mathlib.Core.Bool.{cond}
 use mathlib.Core.List.{List, [], _∷_, _++_}
 use lib.Dec.{ltb, eqb}
-use Rattle.rules.specs.Areas.{byte, perPort}
+use Rattle.rules.specs.Areas.{packetLength, byte, perPort}
 
 -- The last k decimal digits of v.
 unfoldable pub decimal : ℕ → ℕ → List ℕ
 decimal zero v = []
 decimal (suc k) v = decimal k (v / 10) ++ ((48 + v % 10) ∷ [])
 
--- v in at least six digits, and at most k more.
-unfoldable pub atLeastSix : ℕ → ℕ → List ℕ
-atLeastSix zero v = decimal 6 v
-atLeastSix (suc k) v = cond (ltb v 1000000) (decimal 6 v) (atLeastSix k (v / 10) ++ ((48 + v % 10) ∷ []))
+-- How many digits v has, but at least six, and at most k more.
+unfoldable pub digitsOf : ℕ → ℕ → ℕ
+digitsOf zero v = 6
+digitsOf (suc k) v = cond (ltb v 1000000) 6 (suc (digitsOf k (v / 10)))
 
--- A record's number: twenty digits hold every number of 64 bits.
+-- A record's number, in at least six digits: twenty hold every number of 64 bits.
 abbrev pub recordNumber : ℕ → List ℕ
-recordNumber v = atLeastSix 14 v
+recordNumber v = decimal (digitsOf 14 v) v
 
 -- A capital hex digit.
-unfoldable pub hex : ℕ → ℕ
+abbrev pub hex : ℕ → ℕ
 hex d = cond (ltb d 10) (48 + d) (55 + d)
 
 -- A port's field, from its answer and the outgoing identifier: `---`, `bef`, or two hex digits with N or E.
@@ -32,14 +32,18 @@ field code identifier =
 
 -- A space and port p's field, from the outgoing and the answer bytes.
 unfoldable pub portField : List ℕ → List ℕ → ℕ → List ℕ
-portField out ans p = 32 ∷ field (byte ans p) (byte out (20 * p))
+portField out ans p = 32 ∷ field (byte ans p) (byte out (packetLength * p))
 
--- How many were withdrawn on port p, and all of them, from the ten bytes of the answers.
+-- How many were withdrawn on port p, on the ports below p, and in all, from the ten bytes of the answers.
 abbrev pub withdrawn : List ℕ → ℕ → ℕ
 withdrawn ans p = byte ans (10 + 2 * p) * 256 + byte ans (11 + 2 * p)
 
-unfoldable pub withdrawnSum : List ℕ → ℕ
-withdrawnSum ans = withdrawn ans 0 + withdrawn ans 1 + withdrawn ans 2 + withdrawn ans 3 + withdrawn ans 4
+unfoldable pub withdrawnBelow : List ℕ → ℕ → ℕ
+withdrawnBelow ans zero = 0
+withdrawnBelow ans (suc p) = withdrawnBelow ans p + withdrawn ans p
+
+abbrev pub withdrawnSum : List ℕ → ℕ
+withdrawnSum ans = withdrawnBelow ans 5
 
 -- `R`, the record's number and the refusal in two digits.
 unfoldable pub refusedLine : ℕ → ℕ → List ℕ

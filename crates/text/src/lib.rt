@@ -1,12 +1,12 @@
 // The lines of a tape as text, printed into a lent area: each function gives the place after its text.
 ghost use mathlib.Core.Path.{_≡_};
 ghost use mathlib.Core.List.{[], _∷_};
-ghost use Prim.Native.Nat.{_+_, _≤_, _<_};
 ghost use mathlib.Core.Bool.{cond};
+ghost use Prim.Native.Nat.{_+_, _≤_, _<_};
 ghost use lib.Dec.{eqb};
 ghost use lib.ListN.{length};
-ghost use Rattle.text.specs.Lines.{decimal, recordNumber, hex, field, refusedLine, withdrawn, portField, withdrawnSum, tickText, tickLine};
 ghost use Rattle.rules.specs.Areas.{perPort};
+ghost use Rattle.text.specs.Lines.{decimal, digitsOf, hex, field, refusedLine, withdrawn, portField, withdrawnSum, tickText, tickLine};
 ghost use Rattle.text.specs.Put.{Put};
 use layout::Router;
 
@@ -19,10 +19,20 @@ pub fn put_char(lines: &mut [u8], at: usize, b: u8) -> usize
     at + 1
 }
 
+// Given characters.
+fn put_text(lines: &mut [u8], at: usize, text: &[u8]) -> usize
+    requires { ⌜ at + length (now text) ≤ length (now lines) ⌝ }
+    ensures { λ r. ⌜ Put (now (text .entry)) at (now (lines .entry)) (now (lines .exit)) r ⌝ }
+{
+    layout::copy_in(text, lines, at);
+    at + text.len()
+}
+
 // The last digits of a number.
 pub fn put_decimal(lines: &mut [u8], at: usize, width: usize, value: u64) -> usize
     requires { ⌜ at + width ≤ length (now lines) ⌝ }
     ensures { λ r. ⌜ Put (decimal width value) at (now (lines .entry)) (now (lines .exit)) r ⌝ }
+    ensures { λ r. ⌜ r ≡ at + width ⌝ }
 {
     let mut left = width;
     let mut rest = value;
@@ -36,7 +46,8 @@ pub fn put_decimal(lines: &mut [u8], at: usize, width: usize, value: u64) -> usi
 
 // The digits of a record's number.
 fn number_digits(number: u64) -> usize
-    ensures { λ r. ⌜ r ≡ length (recordNumber number) ⌝ }
+    ensures { λ r. ⌜ r ≡ digitsOf 14 number ⌝ }
+    ensures { λ r. ⌜ r ≤ 20 ⌝ }
 {
     let mut more: usize = 14;
     let mut rest = number;
@@ -54,6 +65,7 @@ fn number_digits(number: u64) -> usize
 pub fn put_spaced(lines: &mut [u8], at: usize, width: usize, value: u64) -> usize
     requires { ⌜ at + 1 + width ≤ length (now lines) ⌝ }
     ensures { λ r. ⌜ Put (32 ∷ decimal width value) at (now (lines .entry)) (now (lines .exit)) r ⌝ }
+    ensures { λ r. ⌜ r ≡ at + 1 + width ⌝ }
 {
     let digits = put_char(lines, at, b' ');
     put_decimal(lines, digits, width, value)
@@ -63,6 +75,7 @@ pub fn put_spaced(lines: &mut [u8], at: usize, width: usize, value: u64) -> usiz
 pub fn put_refused(lines: &mut [u8], at: usize, number: u64, refusal: u8) -> usize
     requires { ⌜ at + 26 ≤ length (now lines) ⌝ }
     ensures { λ r. ⌜ Put (refusedLine number refusal) at (now (lines .entry)) (now (lines .exit)) r ⌝ }
+    ensures { λ r. ⌜ r ≤ at + 26 ⌝ }
 {
     let width = number_digits(number);
     let place = put_char(lines, at, b'R');
@@ -71,58 +84,62 @@ pub fn put_refused(lines: &mut [u8], at: usize, number: u64, refusal: u8) -> usi
     put_char(lines, end, b'\n')
 }
 
+// One of two bytes, by a test.
+fn pick(test: bool, yes: u8, no: u8) -> u8
+    ensures { λ r. ⌜ r ≡ cond test yes no ⌝ }
+{
+    if test { yes } else { no }
+}
+
 // A capital hex digit.
 fn hex_digit(d: u8) -> u8
     requires { ⌜ d < 16 ⌝ }
     ensures { λ r. ⌜ r ≡ hex d ⌝ }
 {
-    if d < 10 { b'0' + d } else { 55 + d }
+    pick(d < 10, b'0' + d, 55 + d)
 }
 
 // N for a packet on time, E for an early one.
 fn letter(code: u8) -> u8
     ensures { λ r. ⌜ r ≡ cond (eqb code 1) 78 69 ⌝ }
 {
-    if code == 1 { b'N' } else { b'E' }
-}
-
-fn put_three(lines: &mut [u8], at: usize, a: u8, b: u8, c: u8) -> usize
-    requires { ⌜ at + 3 ≤ length (now lines) ⌝ }
-    ensures { λ r. ⌜ Put (a ∷ b ∷ c ∷ []) at (now (lines .entry)) (now (lines .exit)) r ⌝ }
-{
-    lines[at] = a;
-    lines[at + 1] = b;
-    lines[at + 2] = c;
-    at + 3
+    pick(code == 1, b'N', b'E')
 }
 
 // A port's field, from its answer and the outgoing identifier.
-pub fn put_field(lines: &mut [u8], at: usize, code: u8, identifier: u8) -> usize
-    requires { ⌜ at + 3 ≤ length (now lines) ⌝ }
-    ensures { λ r. ⌜ Put (field code identifier) at (now (lines .entry)) (now (lines .exit)) r ⌝ }
+fn field_bytes(code: u8, identifier: u8) -> [u8; 3]
+    ensures { λ r. ⌜ r ≡ field code identifier ⌝ }
 {
     if code == 0 {
-        return put_three(lines, at, b'-', b'-', b'-');
+        return [b'-', b'-', b'-'];
     }
     if code == 2 {
-        return put_three(lines, at, b'b', b'e', b'f');
+        return [b'b', b'e', b'f'];
     }
-    put_three(
-        lines,
-        at,
+    [
         hex_digit(identifier / 16),
         hex_digit(identifier % 16),
         letter(code),
-    )
+    ]
+}
+
+pub fn put_field(lines: &mut [u8], at: usize, code: u8, identifier: u8) -> usize
+    requires { ⌜ at + 3 ≤ length (now lines) ⌝ }
+    ensures { λ r. ⌜ Put (field code identifier) at (now (lines .entry)) (now (lines .exit)) r ⌝ }
+    ensures { λ r. ⌜ r ≡ at + 3 ⌝ }
+{
+    let bytes = field_bytes(code, identifier);
+    put_text(lines, at, &bytes)
 }
 
 // A space and a port's field, from the outgoing and the answer bytes.
 fn put_port(lines: &mut [u8], at: usize, port: usize, outgoing: &[u8], answers: &[u8]) -> usize
     requires { ⌜ (at + 4 ≤ length (now lines)) × (port < 5) ⌝ }
     ensures { λ r. ⌜ Put (portField (now (outgoing .entry)) (now (answers .entry)) port) at (now (lines .entry)) (now (lines .exit)) r ⌝ }
+    ensures { λ r. ⌜ r ≡ at + 4 ⌝ }
 {
     let code = layout::byte(answers, port);
-    let identifier = layout::byte(outgoing, 20 * port);
+    let identifier = layout::byte(outgoing, Router::PACKET * port);
     let place = put_char(lines, at, b' ');
     put_field(lines, place, code, identifier)
 }
@@ -130,6 +147,7 @@ fn put_port(lines: &mut [u8], at: usize, port: usize, outgoing: &[u8], answers: 
 fn put_ports(lines: &mut [u8], at: usize, outgoing: &[u8], answers: &[u8]) -> usize
     requires { ⌜ at + 20 ≤ length (now lines) ⌝ }
     ensures { λ r. ⌜ Put (perPort (portField (now (outgoing .entry)) (now (answers .entry)))) at (now (lines .entry)) (now (lines .exit)) r ⌝ }
+    ensures { λ r. ⌜ r ≡ at + 20 ⌝ }
 {
     let mut place = at;
     let mut port: usize = 0;
@@ -140,7 +158,7 @@ fn put_ports(lines: &mut [u8], at: usize, outgoing: &[u8], answers: &[u8]) -> us
     place
 }
 
-// How many packets were withdrawn on a port, and on all.
+// How many packets were withdrawn on a port.
 pub fn withdrawn_on(answers: &[u8], port: usize) -> u16
     requires { ⌜ port < 5 ⌝ }
     ensures { λ r. ⌜ r ≡ withdrawn (now (answers .entry)) port ⌝ }
@@ -149,20 +167,17 @@ pub fn withdrawn_on(answers: &[u8], port: usize) -> u16
         + layout::byte(answers, 11 + 2 * port) as u16
 }
 
-fn wide(x: u16) -> u64
-    ensures { λ r. ⌜ r ≡ x ⌝ }
-{
-    x as u64
-}
-
+// How many packets were withdrawn in all.
 pub fn withdrawn_sum(answers: &[u8]) -> u64
     ensures { λ r. ⌜ r ≡ withdrawnSum (now (answers .entry)) ⌝ }
 {
-    wide(withdrawn_on(answers, 0))
-        + wide(withdrawn_on(answers, 1))
-        + wide(withdrawn_on(answers, 2))
-        + wide(withdrawn_on(answers, 3))
-        + wide(withdrawn_on(answers, 4))
+    let mut sum: u64 = 0;
+    let mut port: usize = 0;
+    while port < Router::PORTS {
+        sum += withdrawn_on(answers, port) as u64;
+        port += 1;
+    }
+    sum
 }
 
 // An accepted tick's text: 30 characters, from the clock before it, the outgoing and the answer bytes.
@@ -175,6 +190,7 @@ pub fn put_tick_text(
 ) -> usize
     requires { ⌜ at + 30 ≤ length (now lines) ⌝ }
     ensures { λ r. ⌜ Put (tickText clock (now (outgoing .entry)) (now (answers .entry))) at (now (lines .entry)) (now (lines .exit)) r ⌝ }
+    ensures { λ r. ⌜ r ≡ at + 30 ⌝ }
 {
     let total = withdrawn_sum(answers);
     let place = put_char(lines, at, b'T');
@@ -183,10 +199,12 @@ pub fn put_tick_text(
     put_spaced(lines, end, 4, total)
 }
 
+// An accepted tick's line: its text and a line feed.
 pub fn put_tick(lines: &mut [u8], at: usize, clock: u8, outgoing: &[u8], answers: &[u8]) -> usize
     requires { ⌜ at + 31 ≤ length (now lines) ⌝ }
     ensures { λ r. ⌜ Put (tickLine clock (now (outgoing .entry)) (now (answers .entry))) at (now (lines .entry)) (now (lines .exit)) r ⌝ }
+    ensures { λ r. ⌜ r ≡ at + 31 ⌝ }
 {
-    let end = put_tick_text(lines, at, clock, outgoing, answers);
-    put_char(lines, end, b'\n')
+    let feed = put_tick_text(lines, at, clock, outgoing, answers);
+    put_char(lines, feed, b'\n')
 }

@@ -1,20 +1,20 @@
--- `is_blank` meets its contract. The loop's invariant: the bytes from `from` on are zero just if those from `i` on are. The measure is what is left of the length.
+-- `is_blank` meets its contract. The loop's invariant: the whole part is blank just if what is left of it is. The measure is what is left of the part.
 -- Assumes nothing.
 use Prim.Native.Nat.{_-_}
-use mathlib.Core.Path.{_≡_, refl, sym, _∙_}
+use mathlib.Core.Path.{_≡_, refl}
 use native.Mathlib.Numerals.{add-one}
-use lib.ListN.{length, drop}
 use borrow.Author.Needs.{needs}
-use Rattle.records.specs.Records.{blank}
-use Rattle.records.proofs.Laws.{blank-end, blank-zero, blank-other}
+use borrow.Author.Tests.{eq-eqb, ne-eqb}
+use Rattle.records.specs.Records.{blankPart}
+use Rattle.records.proofs.Refusals.{blank-empty, blank-first}
 use Rattle.records.proofs.is_blank.Statement.{statement}
 use Rattle.records.proofs.is_blank.Tie as tie
 
 abbrev Inv-loop : tie.InvT-loop
-Inv-loop bytes from i₀ i = blank (drop i bytes) ≡ blank (drop from bytes)
+Inv-loop bytes from to i₀ i = blankPart bytes from to ≡ blankPart bytes i to
 
 abbrev μ-loop : tie.MeasureT-loop
-μ-loop bytes from i₀ i = length bytes - i
+μ-loop bytes from to i₀ i = to - i
 
 loop-holds : tie.Need-loop-holds Inv-loop μ-loop
 loop-holds c = refl
@@ -23,7 +23,10 @@ shared-slice-read-if1 : tie.Need-shared-slice-read-if1 Inv-loop μ-loop
 shared-slice-read-if1 c = search needs
 
 returns : tie.Need-returns Inv-loop μ-loop
-returns c = let l = c .before .before .before .loop in sym (blank-other _ (l .i) (c .before .before .loop-test .taken) (c .if1 .taken)) ∙ l .inv
+returns c =
+    let l = c .before .before .before .loop in
+    let a = c .before .before .before .before .args in
+    rw (l .inv, blank-first (a .bytes .now) (l .i) (a .to) (search needs) (search needs), ne-eqb _ _ (c .if1 .taken))
 
 add-i : tie.Need-add-i Inv-loop μ-loop
 add-i c = search needs
@@ -32,10 +35,16 @@ loop-less : tie.Need-loop-less Inv-loop μ-loop
 loop-less c = search needs
 
 loop-again : tie.Need-loop-again Inv-loop μ-loop
-loop-again c = let l = c .before .before .before .loop in rw (add-one (l .i)) (sym (blank-zero _ (l .i) (c .before .before .loop-test .taken) (c .if1 .left)) ∙ l .inv)
+loop-again c =
+    let l = c .before .before .before .loop in
+    let a = c .before .before .before .before .args in
+    rw (add-one (l .i), l .inv, blank-first (a .bytes .now) (l .i) (a .to) (search needs) (search needs), eq-eqb _ _ (c .if1 .left))
 
 returns-2 : tie.Need-returns-2 Inv-loop μ-loop
-returns-2 c = let l = c .before .loop in sym (blank-end _ (l .i) (c .loop-test .left)) ∙ l .inv
+returns-2 c =
+    let l = c .before .loop in
+    let a = c .before .before .args in
+    rw (l .inv, blank-empty (a .bytes .now) (l .i) (a .to) (c .loop-test .left))
 
 pub is-blank-spec : {M : Type 1} → statement M
 is-blank-spec =

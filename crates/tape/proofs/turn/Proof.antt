@@ -1,4 +1,4 @@
--- `tape::turn` meets its contract, by those of the block's reading and of the library. Assumes nothing.
+-- `tape::turn` meets its contract: the place and the lines are those of `stepping::run` on the bytes read. Assumes nothing.
 use mathlib.Core.Path.{refl, sym}
 use lib.Seq.{length-take-le}
 use borrow.Author.Needs.{needs}
@@ -42,7 +42,10 @@ same-length-5 : tie.Need-same-length-5
 same-length-5 c = search needs
 
 returns : tie.Need-returns
-returns c = (c .before .before .before .before .before .before .before .before .before .before .run .ensures .0, (c .before .before .before .before .before .before .before .before .before .before .before .before .before .before .before .before .before .before .read-block .ensures, refl))
+returns c =
+    let ran = c .before .before .before .before .before .before .before .before .before .before in
+    let filled = ran .before .before .before .before .before .before .before .before in
+    (ran .run .ensures .0, (filled .read-block .ensures, refl))
 
 pub turn-spec : {M : Type 1} → statement M
 turn-spec =

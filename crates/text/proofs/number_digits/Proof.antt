@@ -3,15 +3,14 @@
 use Prim.Native.Nat.{suc, _≤_, _+_, _-_}
 use mathlib.Core.Path.{_≡_}
 use native.Mathlib.Omega.{arith}
-use lib.ListN.{length}
 use borrow.Author.Needs.{needs}
-use Rattle.text.specs.Lines.{atLeastSix, recordNumber}
-use Rattle.text.proofs.Texts.{length-short, length-long, length-last}
+use Rattle.text.specs.Lines.{digitsOf}
+use Rattle.text.proofs.Numbers.{digits-short, digits-long}
 use Rattle.text.proofs.number_digits.Statement.{statement}
 use Rattle.text.proofs.number_digits.Tie as tie
 
 abbrev Inv-loop : tie.InvT-loop
-Inv-loop number more₀ rest₀ more rest = (more ≤ 14) × (length (atLeastSix more rest) + 14 ≡ length (recordNumber number) + more)
+Inv-loop number more₀ rest₀ more rest = (more ≤ 14) × (digitsOf more rest + 14 ≡ digitsOf 14 number + more)
 
 abbrev μ-loop : tie.MeasureT-loop
 μ-loop number more₀ rest₀ more rest = more
@@ -23,7 +22,9 @@ sub-result : tie.Need-sub-result Inv-loop μ-loop
 sub-result c = search needs
 
 returns : tie.Need-returns Inv-loop μ-loop
-returns c = omega (arith, length-short (c .before .before .loop .more) (c .before .before .loop .rest) (c .if1 .taken))
+returns c =
+    let l = c .before .before .loop in
+    (omega (arith, digits-short (l .more) (l .rest) (c .if1 .taken)), search needs)
 
 sub-more : tie.Need-sub-more Inv-loop μ-loop
 sub-more c = search needs
@@ -34,12 +35,14 @@ loop-less c = search needs
 loop-again : tie.Need-loop-again Inv-loop μ-loop
 loop-again c = let l = c .before .before .loop in
     let e : suc (l .more - 1) ≡ l .more = omega arith in
-    (search needs, omega (arith, rw e at (length-long (l .more - 1) (l .rest) (c .if1 .left))))
+    (search needs, omega (arith, rw e at (digits-long (l .more - 1) (l .rest) (c .if1 .left))))
 
 returns-2 : tie.Need-returns-2 Inv-loop μ-loop
-returns-2 c = let l = c .before .loop in
+unfolding digitsOf
+returns-2 c =
+    let l = c .before .loop in
     let e : l .more ≡ 0 = omega arith in
-    omega (arith, l .inv .1, rw e at (l .inv .1), length-last (l .rest))
+    (omega (arith, rw e at (l .inv .1)), search needs)
 
 pub number-digits-spec : {M : Type 1} → statement M
 number-digits-spec =

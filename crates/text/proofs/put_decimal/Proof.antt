@@ -7,12 +7,13 @@ use lib.ListN.{length, length-set}
 use lib.Seq.{sets}
 use borrow.Author.Needs.{needs}
 use Rattle.text.specs.Lines.{decimal}
-use Rattle.text.proofs.Texts.{length-decimal, digit-first}
+use Rattle.text.proofs.Numbers.{length-decimal, last-digit-first}
 use Rattle.text.proofs.put_decimal.Statement.{statement}
 use Rattle.text.proofs.put_decimal.Tie as tie
 
 abbrev Inv-loop : tie.InvT-loop
-Inv-loop lines₀ at width value left₀ rest₀ lines left rest = (left ≤ width) × (length lines ≡ length lines₀) × (sets lines at (decimal left rest) ≡ sets lines₀ at (decimal width value))
+Inv-loop lines₀ at width value left₀ rest₀ lines left rest =
+    (left ≤ width) × (length lines ≡ length lines₀) × (sets lines at (decimal left rest) ≡ sets lines₀ at (decimal width value))
 
 abbrev μ-loop : tie.MeasureT-loop
 μ-loop lines₀ at width value left₀ rest₀ lines left rest = left
@@ -41,7 +42,8 @@ loop-less c = search needs
 loop-again : tie.Need-loop-again Inv-loop μ-loop
 loop-again c = let l = c .before .loop in
     let e : suc (l .left - 1) ≡ l .left = omega arith in
-    (search needs, simp length-set (search needs), digit-first (l .lines) (c .before .before .args .at) (l .left - 1) (l .rest) ∙ rw e (l .inv .2))
+    let at = c .before .before .args .at in
+    (search needs, simp length-set (search needs), last-digit-first (l .lines) at (l .left - 1) (l .rest) ∙ rw e (l .inv .2))
 
 add-result : tie.Need-add-result Inv-loop μ-loop
 add-result c = search needs
@@ -53,7 +55,8 @@ returns : tie.Need-returns Inv-loop μ-loop
 unfolding decimal
 returns c = let l = c .before .loop in
     let e : l .left ≡ 0 = omega arith in
-    record { stored = rw e at (l .inv .2); ends = rw (length-decimal (c .before .before .args .width) (c .before .before .args .value)) }
+    let a = c .before .before .args in
+    (record { stored = rw e at (l .inv .2); ends = rw (length-decimal (a .width) (a .value)) }, refl)
 
 pub put-decimal-spec : {M : Type 1} → statement M
 put-decimal-spec =

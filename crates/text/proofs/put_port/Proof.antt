@@ -1,5 +1,5 @@
 -- `put_port` meets its contract: a space, then the field of the bytes read. Assumes nothing.
-use Rattle.text.proofs.Stores.{put-then}
+use Rattle.text.proofs.Put.{put-then}
 use Rattle.text.specs.Lines.{portField}
 use borrow.Author.Needs.{needs}
 use Rattle.text.proofs.put_port.Statement.{statement}
@@ -25,7 +25,11 @@ same-length c = search needs
 
 returns : tie.Need-returns
 unfolding portField
-returns c = rw (← c .before .before .before .before .before .before .before .before .before .byte .ensures, ← c .before .before .before .before .before .before .before .before .byte2 .ensures) (put-then (c .before .before .before .before .before .before .put-char .ensures) (c .before .before .put-field .ensures))
+returns c =
+    let b = c .before .before .before .before .before .before in
+    let e = b .before .before .before .byte .ensures in
+    let f = b .before .before .byte2 .ensures in
+    (rw (← e, ← f) (put-then (b .put-char .ensures) (c .before .before .put-field .ensures .0)), search needs)
 
 pub put-port-spec : {M : Type 1} → statement M
 put-port-spec =

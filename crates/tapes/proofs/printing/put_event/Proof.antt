@@ -1,7 +1,7 @@
 -- `put_event` meets its contract: each arm is a case of `eventLines`. Assumes nothing.
-use Rattle.tapes.specs.Tape.{eventLines}
-use Rattle.text.proofs.Stores.{put-nothing}
 use borrow.Author.Needs.{needs}
+use Rattle.text.proofs.Put.{put-nothing}
+use Rattle.tapes.specs.Printed.{eventLines}
 use Rattle.tapes.proofs.printing.put_event.Statement.{statement}
 use Rattle.tapes.proofs.printing.put_event.Tie as tie
 
@@ -22,21 +22,21 @@ put-ticked-requires c κs = search needs
 
 returns : tie.Need-returns
 unfolding eventLines
-returns c = rw (c .enum-told .given .1) (put-nothing _ 0)
+returns c = (rw (c .enum-told .given .1) (put-nothing _ _), search needs)
 
 same-length : tie.Need-same-length
 same-length c = search needs
 
 returns-2 : tie.Need-returns-2
 unfolding eventLines
-returns-2 c = rw (c .before .before .before .before .before .event .given .1) (c .before .before .put-refused .ensures)
+returns-2 c = (rw (c .before .before .before .before .before .event .given .1) (c .before .before .put-refused .ensures .0), search needs)
 
 same-length-2 : tie.Need-same-length-2
 same-length-2 c = search needs
 
 returns-3 : tie.Need-returns-3
 unfolding eventLines
-returns-3 c = rw (c .before .before .before .before .before .event2 .given .1) (c .before .before .put-ticked .ensures)
+returns-3 c = (rw (c .before .before .before .before .before .event2 .given .1) (c .before .before .put-ticked .ensures .0), search needs)
 
 pub put-event-spec : {M : Type 1} → statement M
 put-event-spec =

@@ -1,9 +1,7 @@
 -- `put_ticked` meets its contract: the lines of the arrivals, then the tick's. Assumes nothing.
-use Rattle.tapes.specs.Tape.{tickedLines}
-use Rattle.text.proofs.Stores.{put-then}
-use Rattle.tapes.proofs.Texts.{length-arrivals}
 use borrow.Author.Needs.{needs}
-use native.Mathlib.Omega.{arith}
+use Rattle.text.proofs.Put.{put-then}
+use Rattle.tapes.specs.Printed.{tickedLines}
 use Rattle.tapes.proofs.printing.put_ticked.Statement.{statement}
 use Rattle.tapes.proofs.printing.put_ticked.Tie as tie
 
@@ -11,14 +9,14 @@ put-refused-arrivals-requires : tie.Need-put-refused-arrivals-requires
 put-refused-arrivals-requires c κs = search needs
 
 put-tick-requires : tie.Need-put-tick-requires
-put-tick-requires c κs = omega (arith, c .before .before .before .put-refused-arrivals .ensures .ends, length-arrivals (c .before .before .before .before .before .before .before .before .args .records) (c .before .before .before .before .before .before .before .before .args .answers .now))
+put-tick-requires c κs = search needs
 
 same-length : tie.Need-same-length
 same-length c = search needs
 
 returns : tie.Need-returns
 unfolding tickedLines
-returns c = put-then (c .before .before .before .before .before .before .put-refused-arrivals .ensures) (c .before .before .put-tick .ensures)
+returns c = (put-then (c .before .before .before .before .before .before .put-refused-arrivals .ensures .0) (c .before .before .put-tick .ensures .0), search needs)
 
 pub put-ticked-spec : {M : Type 1} → statement M
 put-ticked-spec =

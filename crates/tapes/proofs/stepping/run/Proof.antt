@@ -1,30 +1,36 @@
--- `run` meets its contract. The loop's invariant: the tape and the lines so far are those after the records passed. The measure is the records that are left. Assumes nothing.
+-- `run` meets its contract. The loop's invariant: the tape is that after the records passed, and their lines stand there, at most 161 characters each.
+-- The measure is the records that are left. Assumes nothing.
 use Prim.Native.Nat.{_-_, _*_, _≤_}
-use mathlib.Core.Path.{_≡_, refl, _∙_}
-use lib.ListN.{length, length-drop, take, drop}
-use Rattle.tapes.specs.Tape.{Printed, after}
-use Rattle.tapes.specs.Values.{tapeOf, placeOf}
-use Rattle.tapes.proofs.Steps.{after-step}
-use Rattle.tapes.proofs.Stores.{rest}
-use Rattle.tapes.proofs.Blocks.{turned-all}
-use borrow.Author.Needs.{needs}
+use mathlib.Core.Path.{_≡_, refl}
 use native.Mathlib.Omega.{arith}
+use lib.ListN.{length}
+use borrow.Author.Needs.{needs}
+use Rattle.events.specs.Tape.{after}
+use Rattle.events.specs.Values.{tapeOf}
+use Rattle.text.specs.Put.{Put}
+use Rattle.text.proofs.Put.{put-nothing, take-put}
+use Rattle.tapes.specs.Printed.{linesOf}
+use Rattle.tapes.specs.Values.{placeOf}
+use Rattle.tapes.proofs.Lines.{tape-then, lines-then}
+use Rattle.tapes.proofs.Blocks.{turned-all}
 use Rattle.tapes.proofs.stepping.run.Statement.{statement}
 use Rattle.tapes.proofs.stepping.run.Tie as tie
 
 abbrev Inv-loop : tie.InvT-loop
-Inv-loop state₀ memory₀ arrivals₀ block lines₀ count number waiting₀ at₀ i₀ state memory arrivals lines waiting at i = (i ≤ count) × (length state ≡ length state₀) × (length memory ≡ length memory₀) × (length arrivals ≡ length arrivals₀) × (length lines ≡ length lines₀) × (at ≤ 161 * i)
-    × (_≡_ {A = Printed} (record { tape = tapeOf state memory arrivals waiting; lines = take at lines }) (after (tapeOf state₀ memory₀ arrivals₀ waiting₀) number block i))
+Inv-loop state₀ memory₀ arrivals₀ block lines₀ count number pending₀ at₀ i₀ state memory arrivals lines pending at i =
+    let o = after (tapeOf state₀ memory₀ arrivals₀ pending₀) number block i in
+    ((i ≤ count) × (at ≤ 161 * i) × (length state ≡ length state₀) × (length memory ≡ length memory₀) × (length arrivals ≡ length arrivals₀) × (length lines ≡ length lines₀))
+    × (tapeOf state memory arrivals pending ≡ o .tape) × Put (linesOf (o .events)) 0 lines₀ lines at
 
 abbrev μ-loop : tie.MeasureT-loop
-μ-loop state₀ memory₀ arrivals₀ block lines₀ count number waiting₀ at₀ i₀ state memory arrivals lines waiting at i = count - i
+μ-loop state₀ memory₀ arrivals₀ block lines₀ count number pending₀ at₀ i₀ state memory arrivals lines pending at i = count - i
 
 add-count : tie.Need-add-count Inv-loop μ-loop
 add-count c = search needs
 
 loop-holds : tie.Need-loop-holds Inv-loop μ-loop
-unfolding after
-loop-holds c = (search needs, refl, refl, refl, refl, search needs, refl)
+unfolding after linesOf
+loop-holds c = (search needs, refl, put-nothing _ _)
 
 mul-start : tie.Need-mul-start Inv-loop μ-loop
 mul-start c = search needs
@@ -47,22 +53,8 @@ part-step-start c = search needs
 part-step-end : tie.Need-part-step-end Inv-loop μ-loop
 part-step-end c = search needs
 
-sub-step-2 : tie.Need-sub-step-2 Inv-loop μ-loop
-sub-step-2 c = search needs
-
-part-step-start-2 : tie.Need-part-step-start-2 Inv-loop μ-loop
-part-step-start-2 c = search needs
-
-part-step-end-2 : tie.Need-part-step-end-2 Inv-loop μ-loop
-part-step-end-2 c = search needs
-
 step-requires : tie.Need-step-requires Inv-loop μ-loop
-step-requires c κs =
-    let l = c .before .before .before .before .before .before .before .loop in
-    (l .inv .3 ∙ c .before .before .before .before .before .before .before .before .before .before .before .before .before .before .pre .0, rw (rest (l .lines) (l .at), length-drop (l .at) (l .lines)) (omega (arith, l .inv .4, l .inv .5, c .before .before .before .before .before .before .before .before .before .before .before .before .before .before .pre .1, c .before .before .before .before .before .before .loop-test .taken)))
-
-add-at : tie.Need-add-at Inv-loop μ-loop
-add-at c = omega (arith, c .before .before .before .before .before .before .before .before .before .before .step .ensures .1, c .before .before .before .before .before .before .before .before .before .before .before .before .before .before .before .before .before .before .loop .inv .5, c .before .before .before .before .before .before .before .before .before .before .before .before .before .before .before .before .before .loop-test .taken, c .before .before .before .before .before .before .before .before .before .before .before .before .before .before .before .before .before .before .before .before .before .before .before .before .before .pre .2)
+step-requires c κs = search needs
 
 add-i : tie.Need-add-i Inv-loop μ-loop
 add-i c = search needs
@@ -72,15 +64,14 @@ loop-less c = search needs
 
 loop-again : tie.Need-loop-again Inv-loop μ-loop
 loop-again c =
-    let l = c .before .before .before .before .before .before .before .before .before .before .before .before .before .before .before .before .before .before .loop in
-    let s = c .before .before .before .before .before .before .before .before .before .before .step in
-    let a = c .before .before .before .before .before .before .before .before .before .before .before .before .before .before .before .before .before .before .before .before .before .before .before .before .before .args in
-    let g : length (s .last .1 .1 .1 .1 .1 .1 .0) ≡ length (take (length (l .lines) - l .at) (drop (l .at) (l .lines))) = c .before .before .before .lines .given .0 in
-    let room : 161 ≤ length (take (length (l .lines) - l .at) (drop (l .at) (l .lines))) = rw (rest (l .lines) (l .at), length-drop (l .at) (l .lines)) (omega (arith, l .inv .4, l .inv .5, c .before .before .before .before .before .before .before .before .before .before .before .before .before .before .before .before .before .before .before .before .before .before .before .before .before .pre .1, c .before .before .before .before .before .before .before .before .before .before .before .before .before .before .before .before .before .loop-test .taken)) in
-    (omega (arith, c .before .before .before .before .before .before .before .before .before .before .before .before .before .before .before .before .before .loop-test .taken), search needs, search needs, search needs, search needs, omega (arith, s .ensures .1, l .inv .5), after-step (tapeOf (a .state .now) (a .memory .now) (a .arrivals .now) (a .place .waiting)) (a .place .number) (a .block .now) (l .i) (tapeOf (l .state) (l .memory) (l .arrivals) (l .waiting)) _ (l .at) (s .result .length) (l .lines) (s .last .1 .1 .1 .1 .1 .1 .0) _ (omega (arith, l .inv .5, l .inv .4, c .before .before .before .before .before .before .before .before .before .before .before .before .before .before .before .before .before .before .before .before .before .before .before .before .before .pre .1, c .before .before .before .before .before .before .before .before .before .before .before .before .before .before .before .before .before .loop-test .taken)) (omega (arith, s .ensures .1, g, room)) (l .inv .6) (rw (c .before .before .before .before .before .before .before .before .before .before .before .before .before .before .before .before .record-end .ensures .2) at (s .ensures .0)))
+    let stepped = c .before .before .before .before .before .before .before .before .before in
+    let ended = stepped .before .before .before .before .before .before in
+    let l = ended .before .before .loop in
+    let e = rw (ended .record-end .ensures .2) at (stepped .step .ensures) in
+    (search needs, tape-then _ _ _ (l .i) _ (l .inv .1) _ (e .0), lines-then _ _ _ (l .i) _ (l .inv .1) (l .inv .2) (e .1 .0))
 
-add-t37 : tie.Need-add-t37 Inv-loop μ-loop
-add-t37 c = search needs
+add-t35 : tie.Need-add-t35 Inv-loop μ-loop
+add-t35 c = search needs
 
 same-length : tie.Need-same-length Inv-loop μ-loop
 same-length c = search needs
@@ -98,7 +89,9 @@ returns : tie.Need-returns Inv-loop μ-loop
 returns c =
     let l = c .before .loop in
     let a = c .before .before .before .before .before .before .before .before .args in
-    (turned-all (placeOf (a .state .now) (a .memory .now) (a .arrivals .now) (a .place)) (a .block .now) (l .i) (omega arith) _ _ (l .inv .6), omega (arith, l .inv .5, c .before .before .before .before .before .before .before .before .pre .1))
+    let p = placeOf (a .state .now) (a .memory .now) (a .arrivals .now) (a .place) in
+    let fits : l .at ≤ length (a .lines .now) = search needs in
+    (turned-all p (a .block .now) (l .i) (omega arith) _ _ (l .inv .1) (take-put (l .inv .2) fits), fits)
 
 pub run-spec : {M : Type 1} → statement M
 run-spec =
@@ -115,15 +108,11 @@ run-spec =
     sub-step
     part-step-start
     part-step-end
-    sub-step-2
-    part-step-start-2
-    part-step-end-2
     step-requires
-    add-at
     add-i
     loop-less
     loop-again
-    add-t37
+    add-t35
     same-length
     same-length-2
     same-length-3

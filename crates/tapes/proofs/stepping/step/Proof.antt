@@ -1,9 +1,7 @@
--- `step` meets its contract: the record's own contract, and all its lines fit. Assumes nothing.
-use Rattle.tapes.proofs.Steps.{stepped}
-use Rattle.text.proofs.Stores.{put-start, put-within}
-use Rattle.tapes.proofs.Texts.{length-event}
-use Rattle.tapes.specs.Values.{tapeOf, eventOf}
+-- `step` meets its contract: what the record comes to, and its lines. Assumes nothing.
+use mathlib.Core.Path.{ap}
 use borrow.Author.Needs.{needs}
+use Rattle.events.specs.Tape.{Taken}
 use Rattle.tapes.proofs.stepping.step.Statement.{statement}
 use Rattle.tapes.proofs.stepping.step.Tie as tie
 
@@ -38,10 +36,10 @@ same-length-4 : tie.Need-same-length-4
 same-length-4 c = search needs
 
 returns : tie.Need-returns
-returns c = let t = c .before .before .before .before .before .before .before .before .before .before .before .before .before .before .before .before .take-record in
-    let a = c .before .before .before .before .before .before .before .before .before .before .before .before .before .before .before .before .before .before .before .before .before .before .before .before .before .before .before .args in
-    let l = length-event (a .number) (t .result .waiting .records) (eventOf (t .result .event) (t .last .1 .1 .1 .1 .1 .1 .0) (t .last .1 .1 .1 .1 .1 .1 .1 .0)) in
-    (stepped (tapeOf (a .state .now) (a .memory .now) (a .arrivals .now) (a .waiting)) (a .number) (a .bytes .now) _ (t .ensures) _ (put-start (c .before .before .put-event .ensures) l (c .before .before .before .before .before .before .before .before .before .before .before .before .before .before .before .before .before .before .before .before .before .before .before .before .before .before .before .pre .1)), put-within (c .before .before .put-event .ensures) l)
+returns c =
+    let printed = c .before .before in
+    let e = printed .before .before .before .before .before .before .before .before .before .before .before .before .before .before .take-record .ensures in
+    (ap (λ (o : Taken). o .tape) e, (rw (← e) (printed .put-event .ensures .0), search needs))
 
 pub step-spec : {M : Type 1} → statement M
 step-spec =

@@ -1,0 +1,53 @@
+-- What a record comes to, by the answers on the way to it; a tick whatever its outgoing and answers areas held; the beginning. Assumes nothing.
+use Prim.Native.Nat.{ℕ}
+use mathlib.Core.Path.{_≡_, refl, ap}
+use mathlib.Core.Bool.{Bool, true, false, cond}
+use mathlib.Core.List.{List}
+use native.Mathlib.Omega.{arith}
+use lib.ListN.{length, replicate, drop-of-length-le}
+use lib.Seq.{sets, sets-eq}
+use lib.Dec.{eqb}
+use Rattle.rules.specs.Areas.{Store, numberReply, memoryLength, arrivalsLength, outgoingLength, answersLength, byte, areasFull}
+use Rattle.rules.specs.Board8.{board8}
+use Rattle.rules.specs.Tick.{Outcome}
+use Rattle.rules.specs.Tick as Tick
+use Rattle.rules.specs.Questions.{full, fresh, makeFresh, tick, tickRefusal}
+use Rattle.records.specs.Records.{controlKind, arrivalKind, recordRefusal}
+use Rattle.events.specs.Tape.{Tape, start, refused, Taken, takeControl, takeArrival, afterTick, takeTick, takeRecord}
+
+-- The k-th record, by its number and kind; what isn't asked yet stays as it is.
+pub record-taken : (σ : Tape) (k : ℕ) (r : List ℕ) {n kind : ℕ} → n ≡ recordRefusal (σ .pending) r → kind ≡ byte r 0
+    → (o : Taken) {q c a : Bool} → q ≡ eqb n 0 → c ≡ eqb kind controlKind → a ≡ eqb kind arrivalKind
+    → o ≡ cond q (cond c (takeControl σ k r) (cond a (takeArrival σ k r) (takeTick σ k r))) (record { tape = σ; event = refused k n }) → o ≡ takeRecord σ k r
+unfolding takeRecord
+record-taken σ k r en ek o eq ec ea h = rw (← en, ← ek, ← eq, ← ec, ← ea) h
+
+-- A tick's number, and so what the tape makes of its outcome, doesn't depend on what outgoing and answers hold.
+module _ (σ : Tape) (k : ℕ) (r out ans : List ℕ) (lo : length out ≡ outgoingLength) (la : length ans ≡ answersLength) where
+  abbrev number : ℕ
+  number = tickRefusal board8 (σ .store) (σ .pending) (byte r 1) (σ .arrivals) (replicate outgoingLength 0) (replicate answersLength 0)
+
+  abbrev outcome : Bool → List ℕ → List ℕ → Outcome
+  outcome accepted o a = cond accepted (Tick.ticked board8 (σ .store) (σ .pending) (byte r 1) (σ .arrivals)) (record { reply = record { number = number; outgoing = o; answers = a }; store = σ .store })
+
+  number-same : tickRefusal board8 (σ .store) (σ .pending) (byte r 1) (σ .arrivals) out ans ≡ number
+  unfolding tickRefusal areasFull
+  number-same = rw (lo, la)
+
+  pub tick-same : afterTick σ k (tick board8 (σ .store) (σ .pending) (byte r 1) (σ .arrivals) out ans) ≡ takeTick σ k r
+  unfolding takeTick tick
+  tick-same = rw number-same (cases (eqb number 0) refl)
+    where
+      cases : (b : Bool) → eqb number 0 ≡ b → afterTick σ k (outcome b out ans) ≡ afterTick σ k (outcome b (replicate outgoingLength 0) (replicate answersLength 0))
+      cases true e = refl
+      cases false e = rw e
+
+-- A fresh router and arrivals that are cleared are the tape's start.
+pub start-fresh : (s t : Store) (n : ℕ) (a x : List ℕ) → length (s .state) ≡ board8 .stateLength → length (s .memory) ≡ memoryLength → length a ≡ arrivalsLength
+    → _≡_ {A = Outcome} (record { reply = numberReply n; store = t }) (makeFresh board8 s 0)
+    → x ≡ sets a 0 (replicate arrivalsLength 0)
+    → _≡_ {A = Tape} (record { store = t; pending = 0; records = replicate 5 0; arrivals = x }) start
+unfolding start makeFresh full
+start-fresh s t n a x hs hm ha e h =
+    let f : t ≡ fresh board8 0 = ap (λ (o : Outcome). o .store) (rw (hs, hm) at e) in
+    rw (f, h, sets-eq (replicate arrivalsLength 0) a 0 (omega arith), drop-of-length-le a {i = arrivalsLength} (omega arith))

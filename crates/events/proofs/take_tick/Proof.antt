@@ -1,0 +1,57 @@
+-- `take_tick` meets its contract: the router's own outcome, whatever the lent areas held (`tick-same` of Taking). Assumes nothing.
+use mathlib.Core.Path.{ap, _∙_}
+use borrow.Author.Needs.{needs}
+use Rattle.rules.specs.Tick.{Outcome}
+use Rattle.events.specs.Tape.{afterTick}
+use Rattle.events.specs.Values.{tapeOf}
+use Rattle.events.proofs.Taking.{tick-same}
+use Rattle.events.proofs.take_tick.Statement.{statement}
+use Rattle.events.proofs.take_tick.Tie as tie
+
+get-requires : tie.Need-get-requires
+get-requires c κs = search needs
+
+byte-requires : tie.Need-byte-requires
+byte-requires c κs = search needs
+
+router-tick-requires : tie.Need-router-tick-requires
+router-tick-requires c κs = search needs
+
+after-tick-requires : tie.Need-after-tick-requires
+after-tick-requires c κs = search needs
+
+same-length : tie.Need-same-length
+same-length c = search needs
+
+same-length-2 : tie.Need-same-length-2
+same-length-2 c = search needs
+
+same-length-3 : tie.Need-same-length-3
+same-length-3 c = search needs
+
+same-length-4 : tie.Need-same-length-4
+same-length-4 c = search needs
+
+returns : tie.Need-returns
+returns c =
+    let ticked = c .before .before .before .before .before .before .before .before .before in
+    let read = ticked .before .before .before .before .before in
+    let start = read .before .before .before .before .before .before .before .before .before in
+    let a = start .args in
+    let σ = tapeOf (a .state .now) (a .memory .now) (a .arrivals .now) (a .pending) in
+    let outcome = rw (read .byte .ensures) at (ticked .router-tick .ensures) in
+    λ k. c .after-tick .ensures (σ .store) _ _ _ _ k (read .before .get .ensures) ∙ ap (λ (o : Outcome). afterTick σ k o) outcome ∙ tick-same σ k (a .bytes .now) _ _ (start .pre .0) (start .pre .1)
+
+pub take-tick-spec : {M : Type 1} → statement M
+take-tick-spec =
+    tie.close
+    (tie.spec
+    get-requires
+    byte-requires
+    router-tick-requires
+    after-tick-requires
+    same-length
+    same-length-2
+    same-length-3
+    same-length-4
+    returns)
