@@ -24,31 +24,16 @@ not-stored Closed h = refl
 not-stored Late h = refl
 not-stored Full h = refl
 
-meets-requires : tie.Need-meets-requires
-meets-requires c κs = search needs
-
-enum-told : tie.Need-enum-told
-enum-told c = search needs
-
 place-requires : tie.Need-place-requires
 place-requires c κs = let e = c .before .before in
     let m = e .before .before .meets .ensures in
     (search needs, search needs, search needs, stored-has-free board8 _ _ _ _ (sym m ∙ ap number (e .enum-told .given .1)))
-
-same-length : tie.Need-same-length
-same-length c = search needs
-
-same-length-2 : tie.Need-same-length-2
-same-length-2 c = search needs
 
 returns : tie.Need-returns
 returns c = let p = c .before .before .before .before in
     let e = p .before .before .before in
     let m = e .before .before .meets .ensures in
     (m, (rw (eq-eqb _ 1 (sym m ∙ ap number (e .enum-told .given .1))) (p .place .ensures .0), p .place .ensures .1))
-
-same-length-3 : tie.Need-same-length-3
-same-length-3 c = search needs
 
 returns-2 : tie.Need-returns-2
 returns-2 c = let m = c .before .meets .ensures in (m, (rw (← m, not-stored _ (c .match .keys2)), λ h. h))
@@ -57,11 +42,11 @@ pub admit-spec : {M : Type 1} → statement M
 admit-spec =
     tie.close
     (tie.spec
-    meets-requires
-    enum-told
+    (λ c κs. search needs)
+    (λ c. search needs)
     place-requires
-    same-length
-    same-length-2
+    (λ c. search needs)
+    (λ c. search needs)
     returns
-    same-length-3
+    (λ c. search needs)
     returns-2)

@@ -18,39 +18,6 @@ abbrev μ-loop : tie.MeasureT-loop
 loop-holds : tie.Need-loop-holds Inv-loop μ-loop
 loop-holds c = arrived-none _ _ _ _
 
-mul-a : tie.Need-mul-a Inv-loop μ-loop
-mul-a c = search needs
-
-add-e : tie.Need-add-e Inv-loop μ-loop
-add-e c = search needs
-
-sub-admit : tie.Need-sub-admit Inv-loop μ-loop
-sub-admit c = search needs
-
-part-admit-start : tie.Need-part-admit-start Inv-loop μ-loop
-part-admit-start c = search needs
-
-part-admit-end : tie.Need-part-admit-end Inv-loop μ-loop
-part-admit-end c = search needs
-
-cast-admit : tie.Need-cast-admit Inv-loop μ-loop
-cast-admit c = search needs
-
-admit-requires : tie.Need-admit-requires Inv-loop μ-loop
-admit-requires c κs = search needs
-
-number-requires : tie.Need-number-requires Inv-loop μ-loop
-number-requires c κs = search needs
-
-array-write-answers : tie.Need-array-write-answers Inv-loop μ-loop
-array-write-answers c = search needs
-
-add-p : tie.Need-add-p Inv-loop μ-loop
-add-p c = search needs
-
-loop-less : tie.Need-loop-less Inv-loop μ-loop
-loop-less c = search needs
-
 loop-again : tie.Need-loop-again Inv-loop μ-loop
 loop-again c = let admitted = c .before .before .before .before .before .admit in
     let turn = c .before .before .before .before .before .before .before .before .before in
@@ -58,12 +25,6 @@ loop-again c = let admitted = c .before .before .before .before .before .admit i
     let area = turn .before .before .before .before .before .args .arrivals .now in
     arrived-next _ _ _ _ (l .inv) (turn .loop-test .taken) (part-packet area (l .p)) (c .number .ensures ∙ admitted .ensures .0) (admitted .ensures .1 .0)
     (admitted .kept .0) (admitted .kept .1 .0) (admitted .ensures .1 .1)
-
-same-length : tie.Need-same-length Inv-loop μ-loop
-same-length c = search needs
-
-same-length-2 : tie.Need-same-length-2 Inv-loop μ-loop
-same-length-2 c = search needs
 
 returns : tie.Need-returns Inv-loop μ-loop
 returns c = let l = c .before .loop in
@@ -77,18 +38,18 @@ arrive-spec =
     Inv-loop
     μ-loop
     loop-holds
-    mul-a
-    add-e
-    sub-admit
-    part-admit-start
-    part-admit-end
-    cast-admit
-    admit-requires
-    number-requires
-    array-write-answers
-    add-p
-    loop-less
+    (λ c. search needs)
+    (λ c. search needs)
+    (λ c. search needs)
+    (λ c. search needs)
+    (λ c. search needs)
+    (λ c. search needs)
+    (λ c κs. search needs)
+    (λ c κs. search needs)
+    (λ c. search needs)
+    (λ c. search needs)
+    (λ c. search needs)
     loop-again
-    same-length
-    same-length-2
+    (λ c. search needs)
+    (λ c. search needs)
     returns)

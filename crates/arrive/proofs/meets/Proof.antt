@@ -24,32 +24,17 @@ at-open-entry c =
     let a = h .before .before .before .before .args in
     rw (← h .before .has-port .ensures, not-false (h .before .has-port .result) (h .if1 .left), ← c .before .get .ensures, ne-eqb (c .before .get .result) 0 (λ e. omega arith)) (routed-answer (inTime board8 (a .state .now) (a .packet .now)) (eqb (board8 .get (a .state .now) free) 0))
 
-has-port-requires : tie.Need-has-port-requires
-has-port-requires c κs = search needs
-
 returns : tie.Need-returns
 unfolding arrival arrivalRefusal arrivalAnswer asked
 returns c = rw (← c .before .has-port .ensures, not-true (c .before .has-port .result) (c .if1 .taken))
-
-shared-slice-read-t9 : tie.Need-shared-slice-read-t9
-shared-slice-read-t9 c = search needs
-
-get-requires : tie.Need-get-requires
-get-requires c κs = search needs
 
 returns-2 : tie.Need-returns-2
 unfolding arrival arrivalRefusal arrivalAnswer asked
 returns-2 c = let h = c .before .before .before in
     rw (← h .before .has-port .ensures, not-false (h .before .has-port .result) (h .if1 .left), ← c .before .get .ensures, eq-eqb (c .before .get .result) 0 (omega arith))
 
-in-time-requires : tie.Need-in-time-requires
-in-time-requires c κs = search needs
-
 returns-3 : tie.Need-returns-3
 returns-3 c = rw (at-open-entry (c .before .before), ← c .before .in-time .ensures, not-true (c .before .in-time .result) (c .if3 .taken))
-
-free-count-requires : tie.Need-free-count-requires
-free-count-requires c κs = search needs
 
 returns-4 : tie.Need-returns-4
 returns-4 c = let l = c .before .before in
@@ -63,13 +48,13 @@ pub meets-spec : {M : Type 1} → statement M
 meets-spec =
     tie.close
     (tie.spec
-    has-port-requires
+    (λ c κs. search needs)
     returns
-    shared-slice-read-t9
-    get-requires
+    (λ c. search needs)
+    (λ c κs. search needs)
     returns-2
-    in-time-requires
+    (λ c κs. search needs)
     returns-3
-    free-count-requires
+    (λ c κs. search needs)
     returns-4
     returns-5)

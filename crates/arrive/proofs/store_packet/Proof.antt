@@ -9,29 +9,11 @@ use borrow.Author.Needs.{needs}
 use Rattle.arrive.proofs.store_packet.Statement.{statement}
 use Rattle.arrive.proofs.store_packet.Tie as tie
 
-slice-aggregate-copy-in : tie.Need-slice-aggregate-copy-in
-slice-aggregate-copy-in c = search needs
-
-copy-in-requires : tie.Need-copy-in-requires
-copy-in-requires c κs = search needs
-
-cast-at : tie.Need-cast-at
-cast-at c = search needs
-
-mul-at : tie.Need-mul-at
-mul-at c = search needs
-
-slice-aggregate-copy-in-2 : tie.Need-slice-aggregate-copy-in-2
-slice-aggregate-copy-in-2 c = search needs
-
 copy-in-requires-2 : tie.Need-copy-in-requires-2
 copy-in-requires-2 c κs = omega (arith, c .before .before .before .before .copy-in .kept .1 .0)
 
 slice-write-memory : tie.Need-slice-write-memory
 slice-write-memory c = omega (arith, c .before .before .copy-in2 .kept .1 .0)
-
-add-memory : tie.Need-add-memory
-add-memory c = search needs
 
 slice-write-memory-2 : tie.Need-slice-write-memory-2
 slice-write-memory-2 c = simp length-set (omega (arith, c .before .before .copy-in2 .kept .1 .0))
@@ -51,14 +33,14 @@ pub store-packet-spec : {M : Type 1} → statement M
 store-packet-spec =
     tie.close
     (tie.spec
-    slice-aggregate-copy-in
-    copy-in-requires
-    cast-at
-    mul-at
-    slice-aggregate-copy-in-2
+    (λ c. search needs)
+    (λ c κs. search needs)
+    (λ c. search needs)
+    (λ c. search needs)
+    (λ c. search needs)
     copy-in-requires-2
     slice-write-memory
-    add-memory
+    (λ c. search needs)
     slice-write-memory-2
     same-length
     returns)

@@ -7,30 +7,6 @@ use borrow.Author.Needs.{needs}
 use Rattle.choose.proofs.choose.Statement.{statement}
 use Rattle.choose.proofs.choose.Tie as tie
 
-cast-t9 : tie.Need-cast-t9
-cast-t9 c = search needs
-
-has-port-requires : tie.Need-has-port-requires
-has-port-requires c κs = search needs
-
-get-requires : tie.Need-get-requires
-get-requires c κs = search needs
-
-cast-bound : tie.Need-cast-bound
-cast-bound c = search needs
-
-add-bound : tie.Need-add-bound
-add-bound c = search needs
-
-mul-bound : tie.Need-mul-bound
-mul-bound c = search needs
-
-add-bound-2 : tie.Need-add-bound-2
-add-bound-2 c = search needs
-
-bound-requires : tie.Need-bound-requires
-bound-requires c κs = search needs
-
 returns : tie.Need-returns
 unfolding bits low
 returns c = let c₂ = c .before .before in
@@ -63,14 +39,14 @@ pub choose-spec : {M : Type 1} → statement M
 choose-spec =
     tie.close
     (tie.spec
-    cast-t9
-    has-port-requires
-    get-requires
-    cast-bound
-    add-bound
-    mul-bound
-    add-bound-2
-    bound-requires
+    (λ c. search needs)
+    (λ c κs. search needs)
+    (λ c κs. search needs)
+    (λ c. search needs)
+    (λ c. search needs)
+    (λ c. search needs)
+    (λ c. search needs)
+    (λ c κs. search needs)
     returns
     returns-2
     returns-3

@@ -17,23 +17,8 @@ abbrev μ-loop : tie.MeasureT-loop
 loop-holds : tie.Need-loop-holds Inv-loop μ-loop
 loop-holds c = (search needs, λ j l h. absurd (omega arith))
 
-sub-t5 : tie.Need-sub-t5 Inv-loop μ-loop
-sub-t5 c = search needs
-
-cast-t6 : tie.Need-cast-t6 Inv-loop μ-loop
-cast-t6 c = search needs
-
-get-requires : tie.Need-get-requires Inv-loop μ-loop
-get-requires c κs = search needs
-
 returns : tie.Need-returns Inv-loop μ-loop
 returns c = c .before .before .before .loop .inv
-
-sub-e : tie.Need-sub-e Inv-loop μ-loop
-sub-e c = search needs
-
-loop-less : tie.Need-loop-less Inv-loop μ-loop
-loop-less c = search needs
 
 loop-again : tie.Need-loop-again Inv-loop μ-loop
 loop-again c = empty-less board8 _ _ (c .before .before .loop-test .taken) (c .before .before .before .loop .inv) (sym (c .before .get .ensures) ∙ c .if1 .left)
@@ -48,11 +33,11 @@ end-spec =
     Inv-loop
     μ-loop
     loop-holds
-    sub-t5
-    cast-t6
-    get-requires
+    (λ c. search needs)
+    (λ c. search needs)
+    (λ c κs. search needs)
     returns
-    sub-e
-    loop-less
+    (λ c. search needs)
+    (λ c. search needs)
     loop-again
     returns-2)

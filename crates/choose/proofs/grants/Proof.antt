@@ -16,35 +16,11 @@ Inv-loop state end waiting bests grants₀ p₀ grants p = (p ≤ 5) × Granted 
 abbrev μ-loop : tie.MeasureT-loop
 μ-loop state end waiting bests grants₀ p₀ grants p = 5 - p
 
-scan-requires : tie.Need-scan-requires Inv-loop μ-loop
-scan-requires c κs = search needs
-
 loop-holds : tie.Need-loop-holds Inv-loop μ-loop
 loop-holds c = (search needs, record { five = refl; each = λ p h. absurd (omega arith) })
 
-cast-choose : tie.Need-cast-choose Inv-loop μ-loop
-cast-choose c = search needs
-
-mul-choose : tie.Need-mul-choose Inv-loop μ-loop
-mul-choose c = search needs
-
-array-read-choose : tie.Need-array-read-choose Inv-loop μ-loop
-array-read-choose c = search needs
-
 choose-requires : tie.Need-choose-requires Inv-loop μ-loop
 choose-requires c κs = (search needs, c .before .before .scan .ensures .each _ (omega arith))
-
-mul-grants : tie.Need-mul-grants Inv-loop μ-loop
-mul-grants c = search needs
-
-array-set-from-grants : tie.Need-array-set-from-grants Inv-loop μ-loop
-array-set-from-grants c = search needs
-
-add-p : tie.Need-add-p Inv-loop μ-loop
-add-p c = search needs
-
-loop-less : tie.Need-loop-less Inv-loop μ-loop
-loop-less c = search needs
 
 loop-again : tie.Need-loop-again Inv-loop μ-loop
 loop-again c = let l = c .before .before .loop in
@@ -61,15 +37,15 @@ grants-spec =
     (tie.spec
     Inv-loop
     μ-loop
-    scan-requires
+    (λ c κs. search needs)
     loop-holds
-    cast-choose
-    mul-choose
-    array-read-choose
+    (λ c. search needs)
+    (λ c. search needs)
+    (λ c. search needs)
     choose-requires
-    mul-grants
-    array-set-from-grants
-    add-p
-    loop-less
+    (λ c. search needs)
+    (λ c. search needs)
+    (λ c. search needs)
+    (λ c. search needs)
     loop-again
     returns)

@@ -30,17 +30,11 @@ mul-lesser c = let h = lowest-port _ (c .before .loop .inv .0) (c .loop-test .ta
 element-copy-out-lesser : tie.Need-element-copy-out-lesser Inv-loop μ-loop
 element-copy-out-lesser c = lowest-port _ (c .before .loop .inv .0) (c .loop-test .taken)
 
-lesser-requires : tie.Need-lesser-requires Inv-loop μ-loop
-lesser-requires c κs = search needs
-
 mul-bests : tie.Need-mul-bests Inv-loop μ-loop
 mul-bests c = let h = lowest-port _ (c .before .before .before .loop .inv .0) (c .before .before .loop-test .taken) in search needs
 
 element-write-bests : tie.Need-element-write-bests Inv-loop μ-loop
 element-write-bests c = lowest-port _ (c .before .before .before .loop .inv .0) (c .before .before .loop-test .taken)
-
-sub-left : tie.Need-sub-left Inv-loop μ-loop
-sub-left c = search needs
 
 loop-less : tie.Need-loop-less Inv-loop μ-loop
 loop-less c = let m = c .before .before .before .loop .left in omega (arith, and-le-r m (m - 1))
@@ -69,10 +63,10 @@ offer-spec =
     cast-p
     mul-lesser
     element-copy-out-lesser
-    lesser-requires
+    (λ c κs. search needs)
     mul-bests
     element-write-bests
-    sub-left
+    (λ c. search needs)
     loop-less
     loop-again
     returns)

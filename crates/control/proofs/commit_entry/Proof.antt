@@ -4,21 +4,6 @@ use borrow.Author.Needs.{needs}
 use Rattle.control.proofs.commit_entry.Statement.{statement}
 use Rattle.control.proofs.commit_entry.Tie as tie
 
-read-requires : tie.Need-read-requires
-read-requires c κs = search needs
-
-put-requires : tie.Need-put-requires
-put-requires c κs = search needs
-
-put-requires-2 : tie.Need-put-requires-2
-put-requires-2 c κs = search needs
-
-put-requires-3 : tie.Need-put-requires-3
-put-requires-3 c κs = search needs
-
-same-length : tie.Need-same-length
-same-length c = search needs
-
 returns : tie.Need-returns
 returns c =
     let third = c .before .before in
@@ -29,4 +14,4 @@ returns c =
 pub commit-entry-spec : {M : Type 1} → statement M
 commit-entry-spec =
     tie.close
-    (tie.spec read-requires put-requires put-requires-2 put-requires-3 same-length returns)
+    (tie.spec (λ c κs. search needs) (λ c κs. search needs) (λ c κs. search needs) (λ c κs. search needs) (λ c. search needs) returns)

@@ -28,24 +28,9 @@ Inv-loop state₀ horizon mask port₀ state port = (port ≤ 5) × (length stat
 abbrev μ-loop : tie.MeasureT-loop
 μ-loop state₀ horizon mask port₀ state port = 5 - port
 
-read-requires : tie.Need-read-requires Inv-loop μ-loop
-read-requires c κs = search needs
-
 loop-holds : tie.Need-loop-holds Inv-loop μ-loop
 unfolding commitHorizon
 loop-holds c = (search needs, refl, refl)
-
-has-port-requires : tie.Need-has-port-requires Inv-loop μ-loop
-has-port-requires c κs = search needs
-
-put-requires : tie.Need-put-requires Inv-loop μ-loop
-put-requires c κs = search needs
-
-add-port : tie.Need-add-port Inv-loop μ-loop
-add-port c = search needs
-
-loop-less : tie.Need-loop-less Inv-loop μ-loop
-loop-less c = search needs
 
 loop-again : tie.Need-loop-again Inv-loop μ-loop
 loop-again c =
@@ -55,9 +40,6 @@ loop-again c =
     (λ w. (search needs, search needs, next _ _ _ _ (l .port) (l .inv .2) (sym is ∙ w .0 .taken) (cc)))
     (λ w. (search needs, search needs, next _ _ _ _ (l .port) (l .inv .2) (sym is ∙ w .0 .left) (cc)))
     (c .if1 .came)
-
-same-length : tie.Need-same-length Inv-loop μ-loop
-same-length c = search needs
 
 returns : tie.Need-returns Inv-loop μ-loop
 returns c =
@@ -71,12 +53,12 @@ commit-horizon-spec =
     (tie.spec
     Inv-loop
     μ-loop
-    read-requires
+    (λ c κs. search needs)
     loop-holds
-    has-port-requires
-    put-requires
-    add-port
-    loop-less
+    (λ c κs. search needs)
+    (λ c κs. search needs)
+    (λ c. search needs)
+    (λ c. search needs)
     loop-again
-    same-length
+    (λ c. search needs)
     returns)

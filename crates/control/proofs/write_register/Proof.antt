@@ -26,45 +26,15 @@ stored-written s l v (suc (suc (suc (suc zero)))) h a b = refl
 stored-written s l v (suc (suc (suc (suc (suc zero))))) h a b = absurd (b refl)
 stored-written s l v (suc (suc (suc (suc (suc (suc n)))))) h a b = absurd (omega arith)
 
-commit-entry-requires : tie.Need-commit-entry-requires
-commit-entry-requires c κs = search needs
-
-commit-horizon-requires : tie.Need-commit-horizon-requires
-commit-horizon-requires c κs = search needs
-
-read-requires : tie.Need-read-requires
-read-requires c κs = search needs
-
-stored-in-requires : tie.Need-stored-in-requires
-stored-in-requires c κs = search needs
-
-latch-place-requires : tie.Need-latch-place-requires
-latch-place-requires c κs = search needs
-
-byte-requires : tie.Need-byte-requires
-byte-requires c κs = search needs
-
-put-requires : tie.Need-put-requires
-put-requires c κs = search needs
-
-same-length : tie.Need-same-length
-same-length c = search needs
-
 returns : tie.Need-returns
 unfolding written
 returns c = let e = c .before .before in
     rw (e .before .before .match .keys1) (e .commit-entry .ensures)
 
-same-length-2 : tie.Need-same-length-2
-same-length-2 c = search needs
-
 returns-2 : tie.Need-returns-2
 unfolding written
 returns-2 c = let h = c .before .before in
     rw (h .before .before .match .keys2) (h .commit-horizon .ensures)
-
-same-length-3 : tie.Need-same-length-3
-same-length-3 c = search needs
 
 returns-3 : tie.Need-returns-3
 returns-3 c =
@@ -81,16 +51,16 @@ pub write-register-spec : {M : Type 1} → statement M
 write-register-spec =
     tie.close
     (tie.spec
-    commit-entry-requires
-    commit-horizon-requires
-    read-requires
-    stored-in-requires
-    latch-place-requires
-    byte-requires
-    put-requires
-    same-length
+    (λ c κs. search needs)
+    (λ c κs. search needs)
+    (λ c κs. search needs)
+    (λ c κs. search needs)
+    (λ c κs. search needs)
+    (λ c κs. search needs)
+    (λ c κs. search needs)
+    (λ c. search needs)
     returns
-    same-length-2
+    (λ c. search needs)
     returns-2
-    same-length-3
+    (λ c. search needs)
     returns-3)

@@ -5,24 +5,6 @@ use Rattle.events.proofs.Taking.{start-fresh}
 use Rattle.events.proofs.begin.Statement.{statement}
 use Rattle.events.proofs.begin.Tie as tie
 
-router-fresh-requires : tie.Need-router-fresh-requires
-router-fresh-requires c κs = search needs
-
-slice-aggregate-copy-in : tie.Need-slice-aggregate-copy-in
-slice-aggregate-copy-in c = search needs
-
-copy-in-requires : tie.Need-copy-in-requires
-copy-in-requires c κs = search needs
-
-same-length : tie.Need-same-length
-same-length c = search needs
-
-same-length-2 : tie.Need-same-length-2
-same-length-2 c = search needs
-
-same-length-3 : tie.Need-same-length-3
-same-length-3 c = search needs
-
 returns : tie.Need-returns
 returns c =
     let copied = c .before .before in
@@ -36,10 +18,10 @@ pub begin-spec : {M : Type 1} → statement M
 begin-spec =
     tie.close
     (tie.spec
-    router-fresh-requires
-    slice-aggregate-copy-in
-    copy-in-requires
-    same-length
-    same-length-2
-    same-length-3
+    (λ c κs. search needs)
+    (λ c. search needs)
+    (λ c κs. search needs)
+    (λ c. search needs)
+    (λ c. search needs)
+    (λ c. search needs)
     returns)

@@ -5,27 +5,12 @@ use Rattle.events.specs.Tape.{takeControl}
 use Rattle.events.proofs.take_control.Statement.{statement}
 use Rattle.events.proofs.take_control.Tie as tie
 
-byte-requires : tie.Need-byte-requires
-byte-requires c κs = search needs
-
-byte-requires-2 : tie.Need-byte-requires-2
-byte-requires-2 c κs = search needs
-
-router-control-requires : tie.Need-router-control-requires
-router-control-requires c κs = search needs
-
-same-length : tie.Need-same-length
-same-length c = search needs
-
 returns : tie.Need-returns
 unfolding takeControl
 returns c =
     let written = c .before .before .before in
     let read = written .before .before in
     λ arrivals out ans k w. rw (← read .before .byte .ensures, ← read .byte2 .ensures, ← written .router-control .ensures, ne-eqb _ _ (c .if1 .taken))
-
-same-length-2 : tie.Need-same-length-2
-same-length-2 c = search needs
 
 returns-2 : tie.Need-returns-2
 unfolding takeControl
@@ -38,10 +23,10 @@ pub take-control-spec : {M : Type 1} → statement M
 take-control-spec =
     tie.close
     (tie.spec
-    byte-requires
-    byte-requires-2
-    router-control-requires
-    same-length
+    (λ c κs. search needs)
+    (λ c κs. search needs)
+    (λ c κs. search needs)
+    (λ c. search needs)
     returns
-    same-length-2
+    (λ c. search needs)
     returns-2)

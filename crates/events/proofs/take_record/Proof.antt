@@ -7,23 +7,8 @@ use Rattle.events.proofs.Taking.{record-taken}
 use Rattle.events.proofs.take_record.Statement.{statement}
 use Rattle.events.proofs.take_record.Tie as tie
 
-refusal-requires : tie.Need-refusal-requires
-refusal-requires c κs = search needs
-
 returns : tie.Need-returns
 returns c = record-taken _ _ _ (c .before .refusal .ensures) refl _ (sym (ne-eqb _ _ (c .if1 .taken))) refl refl refl
-
-byte-requires : tie.Need-byte-requires
-byte-requires c κs = search needs
-
-take-control-requires : tie.Need-take-control-requires
-take-control-requires c κs = search needs
-
-same-length : tie.Need-same-length
-same-length c = search needs
-
-same-length-2 : tie.Need-same-length-2
-same-length-2 c = search needs
 
 returns-2 : tie.Need-returns-2
 returns-2 c =
@@ -42,9 +27,6 @@ take-arrival-requires c κs =
     let free = accepted-port _ _ accepted (sym (kind .byte .ensures) ∙ arrival .if3 .taken) in
     (search needs, accepted-length _ _ accepted, free .0, free .1)
 
-same-length-3 : tie.Need-same-length-3
-same-length-3 c = search needs
-
 returns-3 : tie.Need-returns-3
 returns-3 c =
     let arrival = c .before .before .before .before in
@@ -52,24 +34,6 @@ returns-3 c =
     let asked = kind .before in
     record-taken _ _ _ (asked .before .refusal .ensures) (kind .byte .ensures) _ (sym (eq-eqb _ _ (asked .if1 .left)))
     (sym (ne-eqb _ _ (arrival .before .if2 .left))) (sym (eq-eqb _ _ (arrival .if3 .taken))) (c .before .before .take-arrival .ensures _ _)
-
-take-tick-requires : tie.Need-take-tick-requires
-take-tick-requires c κs = search needs
-
-same-length-4 : tie.Need-same-length-4
-same-length-4 c = search needs
-
-same-length-5 : tie.Need-same-length-5
-same-length-5 c = search needs
-
-same-length-6 : tie.Need-same-length-6
-same-length-6 c = search needs
-
-same-length-7 : tie.Need-same-length-7
-same-length-7 c = search needs
-
-same-length-8 : tie.Need-same-length-8
-same-length-8 c = search needs
 
 returns-4 : tie.Need-returns-4
 returns-4 c =
@@ -84,20 +48,20 @@ pub take-record-spec : {M : Type 1} → statement M
 take-record-spec =
     tie.close
     (tie.spec
-    refusal-requires
+    (λ c κs. search needs)
     returns
-    byte-requires
-    take-control-requires
-    same-length
-    same-length-2
+    (λ c κs. search needs)
+    (λ c κs. search needs)
+    (λ c. search needs)
+    (λ c. search needs)
     returns-2
     take-arrival-requires
-    same-length-3
+    (λ c. search needs)
     returns-3
-    take-tick-requires
-    same-length-4
-    same-length-5
-    same-length-6
-    same-length-7
-    same-length-8
+    (λ c κs. search needs)
+    (λ c. search needs)
+    (λ c. search needs)
+    (λ c. search needs)
+    (λ c. search needs)
+    (λ c. search needs)
     returns-4)

@@ -8,30 +8,6 @@ use Rattle.events.proofs.Taking.{tick-same}
 use Rattle.events.proofs.take_tick.Statement.{statement}
 use Rattle.events.proofs.take_tick.Tie as tie
 
-get-requires : tie.Need-get-requires
-get-requires c κs = search needs
-
-byte-requires : tie.Need-byte-requires
-byte-requires c κs = search needs
-
-router-tick-requires : tie.Need-router-tick-requires
-router-tick-requires c κs = search needs
-
-after-tick-requires : tie.Need-after-tick-requires
-after-tick-requires c κs = search needs
-
-same-length : tie.Need-same-length
-same-length c = search needs
-
-same-length-2 : tie.Need-same-length-2
-same-length-2 c = search needs
-
-same-length-3 : tie.Need-same-length-3
-same-length-3 c = search needs
-
-same-length-4 : tie.Need-same-length-4
-same-length-4 c = search needs
-
 returns : tie.Need-returns
 returns c =
     let ticked = c .before .before .before .before .before .before .before .before .before in
@@ -46,12 +22,12 @@ pub take-tick-spec : {M : Type 1} → statement M
 take-tick-spec =
     tie.close
     (tie.spec
-    get-requires
-    byte-requires
-    router-tick-requires
-    after-tick-requires
-    same-length
-    same-length-2
-    same-length-3
-    same-length-4
+    (λ c κs. search needs)
+    (λ c κs. search needs)
+    (λ c κs. search needs)
+    (λ c κs. search needs)
+    (λ c. search needs)
+    (λ c. search needs)
+    (λ c. search needs)
+    (λ c. search needs)
     returns)

@@ -12,43 +12,16 @@ use borrow.Author.Needs.{needs}
 use Rattle.fresh.proofs.make_fresh.Statement.{statement}
 use Rattle.fresh.proofs.make_fresh.Tie as tie
 
-number-requires : tie.Need-number-requires
-number-requires c κs = search needs
-
 returns : tie.Need-returns
 returns c = refused-state board8 _ _ _ (c .before .if1 .taken) (c .number .ensures)
 
-number-requires-2 : tie.Need-number-requires-2
-number-requires-2 c κs = search needs
-
 returns-2 : tie.Need-returns-2
 returns-2 c = refused-memory board8 _ _ _ (c .before .before .if1 .left) (c .before .if2 .taken) (c .number2 .ensures)
-
-fresh-requires : tie.Need-fresh-requires
-fresh-requires c κs = search needs
-
-slice-aggregate-copy-in : tie.Need-slice-aggregate-copy-in
-slice-aggregate-copy-in c = search needs
 
 copy-in-requires : tie.Need-copy-in-requires
 copy-in-requires c κs = let made = c .before .before .before .before in
     let e = ap length (made .fresh .ensures .0) ∙ lawful8 .length-fresh _ in
     omega (arith, made .before .before .if1 .left)
-
-put-slots-requires : tie.Need-put-slots-requires
-put-slots-requires c κs = search needs
-
-clear-requires : tie.Need-clear-requires
-clear-requires c κs = search needs
-
-number-requires-3 : tie.Need-number-requires-3
-number-requires-3 c κs = search needs
-
-same-length : tie.Need-same-length
-same-length c = search needs
-
-same-length-2 : tie.Need-same-length-2
-same-length-2 c = search needs
 
 returns-3 : tie.Need-returns-3
 returns-3 c = let cleared = c .before .before .before in
@@ -65,16 +38,16 @@ pub make-fresh-spec : {M : Type 1} → statement M
 make-fresh-spec =
     tie.close
     (tie.spec
-    number-requires
+    (λ c κs. search needs)
     returns
-    number-requires-2
+    (λ c κs. search needs)
     returns-2
-    fresh-requires
-    slice-aggregate-copy-in
+    (λ c κs. search needs)
+    (λ c. search needs)
     copy-in-requires
-    put-slots-requires
-    clear-requires
-    number-requires-3
-    same-length
-    same-length-2
+    (λ c κs. search needs)
+    (λ c κs. search needs)
+    (λ c κs. search needs)
+    (λ c. search needs)
+    (λ c. search needs)
     returns-3)

@@ -27,38 +27,17 @@ loop-holds : tie.Need-loop-holds Inv-loop μ-loop
 unfolding emptied
 loop-holds c = (search needs, c .before .pre .0, refl)
 
-mul-slot : tie.Need-mul-slot Inv-loop μ-loop
-mul-slot c = search needs
-
-array-copy-out-slot : tie.Need-array-copy-out-slot Inv-loop μ-loop
-array-copy-out-slot c = search needs
-
 slice-aggregate-copy-in : tie.Need-slice-aggregate-copy-in Inv-loop μ-loop
 slice-aggregate-copy-in c = rw (slot-empty (c .before .before .before))
 
-mul-copy-in : tie.Need-mul-copy-in Inv-loop μ-loop
-mul-copy-in c = search needs
-
-add-copy-in : tie.Need-add-copy-in Inv-loop μ-loop
-add-copy-in c = search needs
-
 copy-in-requires : tie.Need-copy-in-requires Inv-loop μ-loop
 copy-in-requires c κs = rw (slot-empty (c .before .before .before .before)) (omega arith)
-
-add-i : tie.Need-add-i Inv-loop μ-loop
-add-i c = search needs
-
-loop-less : tie.Need-loop-less Inv-loop μ-loop
-loop-less c = search needs
 
 loop-again : tie.Need-loop-again Inv-loop μ-loop
 unfolding emptied
 loop-again c = let t = c .before .before .before .before .before .before .before in
     let l = t .before .loop in
     (search needs, search needs, rw (add-one (l .i), ← l .inv .2) (c .before .before .copy-in .ensures ∙ rw (slot-empty t)))
-
-same-length : tie.Need-same-length Inv-loop μ-loop
-same-length c = search needs
 
 returns : tie.Need-returns Inv-loop μ-loop
 returns c = let e : c .before .loop .i ≡ 256 = omega arith in rw (← e) (c .before .loop .inv .2)
@@ -70,14 +49,14 @@ put-slots-spec =
     Inv-loop
     μ-loop
     loop-holds
-    mul-slot
-    array-copy-out-slot
+    (λ c. search needs)
+    (λ c. search needs)
     slice-aggregate-copy-in
-    mul-copy-in
-    add-copy-in
+    (λ c. search needs)
+    (λ c. search needs)
     copy-in-requires
-    add-i
-    loop-less
+    (λ c. search needs)
+    (λ c. search needs)
     loop-again
-    same-length
+    (λ c. search needs)
     returns)

@@ -8,17 +8,11 @@ use borrow.Author.Needs.{needs}
 use Rattle.layout.proofs.free_count.Statement.{statement}
 use Rattle.layout.proofs.free_count.Tie as tie
 
-shared-slice-read-result : tie.Need-shared-slice-read-result
-shared-slice-read-result c = search needs
-
 cast-result : tie.Need-cast-result
 cast-result c = omega (arith, c .shared-slice-known .given 10)
 
 mul-result : tie.Need-mul-result
 mul-result c = omega (arith, c .shared-slice-known .given 10)
-
-shared-slice-read-result-2 : tie.Need-shared-slice-read-result-2
-shared-slice-read-result-2 c = search needs
 
 cast-result-2 : tie.Need-cast-result-2
 cast-result-2 c = omega (arith, c .shared-slice-known2 .given 11)
@@ -33,10 +27,10 @@ pub free-count-spec : {M : Type 1} → statement M
 free-count-spec =
     tie.close
     (tie.spec
-    shared-slice-read-result
+    (λ c. search needs)
     cast-result
     mul-result
-    shared-slice-read-result-2
+    (λ c. search needs)
     cast-result-2
     add-result
     returns)

@@ -6,9 +6,6 @@ use Rattle.questions.proofs.Answers.{no, yes, passed, full-lengths}
 use Rattle.questions.proofs.of_control.Statement.{statement}
 use Rattle.questions.proofs.of_control.Tie as tie
 
-store-full-requires : tie.Need-store-full-requires
-store-full-requires c κs = search needs
-
 returns : tie.Need-returns
 unfolding controlRefusal
 returns c = no _ _ _ (c .before .store-full .ensures) (c .if1 .taken)
@@ -23,9 +20,6 @@ returns-2 c =
     let f = s .before .before in
     yes _ _ _ (f .store-full .ensures) (s .before .if1 .left) (no _ _ _ (s .is-sound .ensures .0) (c .if2 .taken))
 
-control-questions-requires : tie.Need-control-questions-requires
-control-questions-requires c κs = search needs
-
 returns-3 : tie.Need-returns-3
 unfolding controlRefusal
 returns-3 c =
@@ -37,9 +31,9 @@ pub of-control-spec : {M : Type 1} → statement M
 of-control-spec =
     tie.close
     (tie.spec
-    store-full-requires
+    (λ c κs. search needs)
     returns
     is-sound-requires
     returns-2
-    control-questions-requires
+    (λ c κs. search needs)
     returns-3)

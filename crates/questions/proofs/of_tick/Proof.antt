@@ -9,9 +9,6 @@ use Rattle.questions.proofs.Answers.{no, yes, passed, full-lengths, all
 use Rattle.questions.proofs.of_tick.Statement.{statement}
 use Rattle.questions.proofs.of_tick.Tie as tie
 
-areas-full-requires : tie.Need-areas-full-requires
-areas-full-requires c κs = search needs
-
 returns : tie.Need-returns
 unfolding tickRefusal
 returns c = (no _ _ _ (c .before .areas-full .ensures) (c .if1 .taken), λ e. absurd (omega arith))
@@ -25,9 +22,6 @@ returns-2 c =
     let s = c .before in
     let f = s .before .before in
     (yes _ _ _ (f .areas-full .ensures) (s .before .if1 .left) (no _ _ _ (s .is-sound .ensures .0) (c .if2 .taken)), λ e. absurd (omega arith))
-
-tick-questions-requires : tie.Need-tick-questions-requires
-tick-questions-requires c κs = search needs
 
 returns-3 : tie.Need-returns-3
 unfolding tickRefusal
@@ -44,9 +38,9 @@ pub of-tick-spec : {M : Type 1} → statement M
 of-tick-spec =
     tie.close
     (tie.spec
-    areas-full-requires
+    (λ c κs. search needs)
     returns
     is-sound-requires
     returns-2
-    tick-questions-requires
+    (λ c κs. search needs)
     returns-3)

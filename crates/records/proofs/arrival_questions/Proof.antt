@@ -6,22 +6,13 @@ use Rattle.records.proofs.Refusals.{arrival-number}
 use Rattle.records.proofs.arrival_questions.Statement.{statement}
 use Rattle.records.proofs.arrival_questions.Tie as tie
 
-is-blank-requires : tie.Need-is-blank-requires
-is-blank-requires c κs = search needs
-
 returns : tie.Need-returns
 returns c = arrival-number _ _ 11 (sym (not-true _ (c .if1 .taken)) ∙ c .before .is-blank .ensures) refl refl refl
-
-shared-slice-read-port : tie.Need-shared-slice-read-port
-shared-slice-read-port c = search needs
 
 returns-2 : tie.Need-returns-2
 returns-2 c =
     let b = c .before .before in
     arrival-number _ _ 11 (sym (not-false _ (b .if1 .left)) ∙ b .before .is-blank .ensures) (sym (lt-leb _ _ (c .if2 .taken))) refl refl
-
-has-port-requires : tie.Need-has-port-requires
-has-port-requires c κs = search needs
 
 returns-3 : tie.Need-returns-3
 returns-3 c =
@@ -41,10 +32,10 @@ pub arrival-questions-spec : {M : Type 1} → statement M
 arrival-questions-spec =
     tie.close
     (tie.spec
-    is-blank-requires
+    (λ c κs. search needs)
     returns
-    shared-slice-read-port
+    (λ c. search needs)
     returns-2
-    has-port-requires
+    (λ c κs. search needs)
     returns-3
     returns-4)

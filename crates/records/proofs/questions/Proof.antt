@@ -9,20 +9,11 @@ use Rattle.records.proofs.questions.Tie as tie
 returns : tie.Need-returns
 returns c = record-number _ _ 9 (sym (ne-eqb _ _ (c .if1 .taken))) refl refl refl refl
 
-shared-slice-read-kind : tie.Need-shared-slice-read-kind
-shared-slice-read-kind c = search needs
-
-unused-questions-requires : tie.Need-unused-questions-requires
-unused-questions-requires c κs = search needs
-
 returns-2 : tie.Need-returns-2
 returns-2 c =
     let control = c .before in
     let whole = control .before .before in
     record-number _ _ _ (sym (eq-eqb _ _ (whole .if1 .left))) (sym (eq-eqb _ _ (control .if2 .taken))) refl refl (c .unused-questions .ensures)
-
-arrival-questions-requires : tie.Need-arrival-questions-requires
-arrival-questions-requires c κs = search needs
 
 returns-3 : tie.Need-returns-3
 returns-3 c =
@@ -30,9 +21,6 @@ returns-3 c =
     let control = arrival .before in
     let whole = control .before .before in
     record-number _ _ _ (sym (eq-eqb _ _ (whole .if1 .left))) (sym (ne-eqb _ _ (control .if2 .left))) (sym (eq-eqb _ _ (arrival .if3 .taken))) refl (c .arrival-questions .ensures)
-
-unused-questions-requires-2 : tie.Need-unused-questions-requires-2
-unused-questions-requires-2 c κs = search needs
 
 returns-4 : tie.Need-returns-4
 returns-4 c =
@@ -54,11 +42,11 @@ questions-spec =
     tie.close
     (tie.spec
     returns
-    shared-slice-read-kind
-    unused-questions-requires
+    (λ c. search needs)
+    (λ c κs. search needs)
     returns-2
-    arrival-questions-requires
+    (λ c κs. search needs)
     returns-3
-    unused-questions-requires-2
+    (λ c κs. search needs)
     returns-4
     returns-5)

@@ -7,21 +7,9 @@ use Rattle.router.proofs.Outcomes.{known, control-refused, control-acce
 use Rattle.router.proofs.router_control.Statement.{statement}
 use Rattle.router.proofs.router_control.Tie as tie
 
-of-control-requires : tie.Need-of-control-requires
-of-control-requires c κs = search needs
-
-number-requires : tie.Need-number-requires
-number-requires c κs = search needs
-
-same-length : tie.Need-same-length
-same-length c = search needs
-
 returns : tie.Need-returns
 returns c = let q = c .before in
     control-refused _ _ _ _ (q .number .ensures ∙ q .before .of-control .ensures) (λ e. omega arith)
-
-same-length-2 : tie.Need-same-length-2
-same-length-2 c = search needs
 
 returns-2 : tie.Need-returns-2
 returns-2 c =
@@ -39,10 +27,10 @@ pub router-control-spec : {M : Type 1} → statement M
 router-control-spec =
     tie.close
     (tie.spec
-    of-control-requires
-    number-requires
-    same-length
+    (λ c κs. search needs)
+    (λ c κs. search needs)
+    (λ c. search needs)
     returns
     write-register-requires
-    same-length-2
+    (λ c. search needs)
     returns-2)

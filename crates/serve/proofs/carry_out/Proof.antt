@@ -27,15 +27,6 @@ settle-requires c κs = let c₄ = c .before .before .before .before in
     let g = grantAt (c₁₀ .args .grants) in
     ((p .0 .0, p .1 .0 .1), (p .1 .0 .0, λ i. rw (c₄ .serve .ensures .1 .1) (sends-le board8 lawful8 _ g (p .1 .1 .1) 5 (omega arith) i)))
 
-advance-requires : tie.Need-advance-requires
-advance-requires c κs = search needs
-
-same-length : tie.Need-same-length
-same-length c = search needs
-
-same-length-2 : tie.Need-same-length-2
-same-length-2 c = search needs
-
 returns : tie.Need-returns
 returns c = let c₂ = c .before .before in
     let c₆ = c₂ .before .before .before .before in
@@ -59,4 +50,4 @@ returns c = let c₂ = c .before .before in
 pub carry-out-spec : {M : Type 1} → statement M
 carry-out-spec =
     tie.close
-    (tie.spec serve-requires settle-requires advance-requires same-length same-length-2 returns)
+    (tie.spec serve-requires settle-requires (λ c κs. search needs) (λ c. search needs) (λ c. search needs) returns)

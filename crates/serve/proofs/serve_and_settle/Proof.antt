@@ -12,24 +12,12 @@ use borrow.Author.Needs.{needs}
 use Rattle.serve.proofs.serve_and_settle.Statement.{statement}
 use Rattle.serve.proofs.serve_and_settle.Tie as tie
 
-end-requires : tie.Need-end-requires
-end-requires c κs = search needs
-
-grants-requires : tie.Need-grants-requires
-grants-requires c κs = search needs
-
 carry-out-requires : tie.Need-carry-out-requires
 carry-out-requires c κs = let c₂ = c .before .before in
     let c₄ = c₂ .before .before in
     let p = c₄ .before .before .before .before .before .pre in
     let g = c₂ .grants .ensures in
     (p .0, ((p .1, c₄ .end .ensures), (g .five, granted-wins board8 lawful8 _ (p .0 .0) _ (grantAt (c₂ .grants .result)) (g .each))))
-
-same-length : tie.Need-same-length
-same-length c = search needs
-
-same-length-2 : tie.Need-same-length-2
-same-length-2 c = search needs
 
 returns : tie.Need-returns
 returns c = let c₄ = c .before .before .before .before in
@@ -52,4 +40,4 @@ returns c = let c₄ = c .before .before .before .before in
 pub serve-and-settle-spec : {M : Type 1} → statement M
 serve-and-settle-spec =
     tie.close
-    (tie.spec end-requires grants-requires carry-out-requires same-length same-length-2 returns)
+    (tie.spec (λ c κs. search needs) (λ c κs. search needs) carry-out-requires (λ c. search needs) (λ c. search needs) returns)

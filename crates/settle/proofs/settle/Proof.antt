@@ -23,18 +23,9 @@ Inv-loop state₀ sent end t counts₀ i₀ state counts i = (i ≤ end) × (len
 abbrev μ-loop : tie.MeasureT-loop
 μ-loop state₀ sent end t counts₀ i₀ state counts i = end - i
 
-get-requires : tie.Need-get-requires Inv-loop μ-loop
-get-requires c κs = search needs
-
 loop-holds : tie.Need-loop-holds Inv-loop μ-loop
 unfolding settled count
 loop-holds c = (search needs, refl, refl, record { five = refl; each = λ p h. getD-replicate 5 p 0 0 h })
-
-cast-t15 : tie.Need-cast-t15 Inv-loop μ-loop
-cast-t15 c = search needs
-
-element-copy-out-settle-slot : tie.Need-element-copy-out-settle-slot Inv-loop μ-loop
-element-copy-out-settle-slot c = search needs
 
 settle-slot-requires : tie.Need-settle-slot-requires Inv-loop μ-loop
 settle-slot-requires c κs = let c₄ = c .before .before .before .before in
@@ -48,12 +39,6 @@ settle-slot-requires c κs = let c₄ = c .before .before .before .before in
       rw (l .inv .2) (length-settled board8 lawful8 s m z r (l .i) (omega arith), settled-room board8 lawful8 s m z r (l .i) (omega arith), rw (settled-keeps-mask board8 lawful8 s m z r (l .i) (omega arith)) (a .1 .1 (l .i))),
       (l .inv .3 .five, missed-few board8 lawful8 s m (l .i) (omega arith) _ (l .inv .3)),
     )
-
-add-i : tie.Need-add-i Inv-loop μ-loop
-add-i c = search needs
-
-loop-less : tie.Need-loop-less Inv-loop μ-loop
-loop-less c = search needs
 
 loop-again : tie.Need-loop-again Inv-loop μ-loop
 loop-again c = let c₂ = c .before .before in
@@ -72,9 +57,6 @@ loop-again c = let c₂ = c .before .before in
       rw (add-one (l .i)) (missed-turn board8 lawful8 s m z r (l .i) (omega arith) _ refl _ (c₈ .get .ensures) _ _ _ (l .inv .2) (l .inv .3) (e .0)),
     )
 
-same-length : tie.Need-same-length Inv-loop μ-loop
-same-length c = search needs
-
 returns : tie.Need-returns Inv-loop μ-loop
 returns c = let c₅ = c .before .before .before .before .before in
     let l = c .before .loop in
@@ -92,13 +74,13 @@ settle-spec =
     (tie.spec
     Inv-loop
     μ-loop
-    get-requires
+    (λ c κs. search needs)
     loop-holds
-    cast-t15
-    element-copy-out-settle-slot
+    (λ c. search needs)
+    (λ c. search needs)
     settle-slot-requires
-    add-i
-    loop-less
+    (λ c. search needs)
+    (λ c. search needs)
     loop-again
-    same-length
+    (λ c. search needs)
     returns)

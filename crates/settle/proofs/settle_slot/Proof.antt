@@ -10,12 +10,6 @@ use borrow.Author.Needs.{needs}
 use Rattle.settle.proofs.settle_slot.Statement.{statement}
 use Rattle.settle.proofs.settle_slot.Tie as tie
 
-get-requires : tie.Need-get-requires
-get-requires c κs = search needs
-
-same-length : tie.Need-same-length
-same-length c = search needs
-
 returns : tie.Need-returns
 returns c = let c₃ = c .before .before .before in
     let c₆ = c₃ .before .before .before in
@@ -23,28 +17,10 @@ returns c = let c₃ = c .before .before .before in
     let d = not-true _ (c .if2 .taken) in
     (counts-waiting board8 lawful8 _ _ _ _ _ (c₆ .pre .1 .0) _ v d, slot-waits board8 lawful8 _ _ _ _ _ (omega arith) v d (c .before .if1 .taken))
 
-get-requires-2 : tie.Need-get-requires-2
-get-requires-2 c κs = search needs
-
-same-length-2 : tie.Need-same-length-2
-same-length-2 c = search needs
-
 returns-2 : tie.Need-returns-2
 returns-2 c = let m = sym (c .before .get2 .ensures) ∙ c .if3 .taken in
     let c₈ = c .before .before .before .before .before .before .before .before in
     (counts-empty board8 lawful8 _ _ _ _ _ (c₈ .pre .1 .0) m, slot-empty board8 lawful8 _ _ _ _ (omega arith) m)
-
-sub-left : tie.Need-sub-left
-sub-left c = search needs
-
-give-back-requires : tie.Need-give-back-requires
-give-back-requires c κs = search needs
-
-withdraw-requires : tie.Need-withdraw-requires
-withdraw-requires c κs = search needs
-
-same-length-3 : tie.Need-same-length-3
-same-length-3 c = search needs
 
 returns-3 : tie.Need-returns-3
 returns-3 c = let c₄ = c .before .before .before .before in
@@ -58,12 +34,6 @@ returns-3 c = let c₄ = c .before .before .before .before in
       slot-due board8 lawful8 _ _ _ _ _ _ m v (c₇ .if3 .left) (c₆ .if4 .taken) _ (c₄ .give-back .ensures),
     )
 
-give-back-requires-2 : tie.Need-give-back-requires-2
-give-back-requires-2 c κs = search needs
-
-same-length-4 : tie.Need-same-length-4
-same-length-4 c = search needs
-
 returns-4 : tie.Need-returns-4
 returns-4 c = let c₂ = c .before .before in
     let c₄ = c₂ .before .before in
@@ -74,12 +44,6 @@ returns-4 c = let c₂ = c .before .before in
       counts-waiting board8 lawful8 _ _ _ _ _ (c₁₁ .before .before .before .pre .1 .0) _ v (c₅ .if4 .left),
       slot-sent board8 lawful8 _ _ _ _ _ _ (c₆ .before .get2 .ensures) v (c₆ .if3 .left) (c₅ .if4 .left) (c₄ .if5 .taken) _ (c₂ .give-back2 .ensures),
     )
-
-put-requires : tie.Need-put-requires
-put-requires c κs = search needs
-
-same-length-5 : tie.Need-same-length-5
-same-length-5 c = search needs
 
 returns-5 : tie.Need-returns-5
 returns-5 c = let c₂ = c .before .before in
@@ -96,20 +60,20 @@ pub settle-slot-spec : {M : Type 1} → statement M
 settle-slot-spec =
     tie.close
     (tie.spec
-    get-requires
-    same-length
+    (λ c κs. search needs)
+    (λ c. search needs)
     returns
-    get-requires-2
-    same-length-2
+    (λ c κs. search needs)
+    (λ c. search needs)
     returns-2
-    sub-left
-    give-back-requires
-    withdraw-requires
-    same-length-3
+    (λ c. search needs)
+    (λ c κs. search needs)
+    (λ c κs. search needs)
+    (λ c. search needs)
     returns-3
-    give-back-requires-2
-    same-length-4
+    (λ c κs. search needs)
+    (λ c. search needs)
     returns-4
-    put-requires
-    same-length-5
+    (λ c κs. search needs)
+    (λ c. search needs)
     returns-5)

@@ -47,9 +47,6 @@ mul-counts-2 c = let h = lowest-port _ (c .before .before .loop .inv .0) (c .bef
 element-write-counts : tie.Need-element-write-counts Inv-loop μ-loop
 element-write-counts c = lowest-port _ (c .before .before .loop .inv .0) (c .before .loop-test .taken)
 
-sub-left : tie.Need-sub-left Inv-loop μ-loop
-sub-left c = search needs
-
 loop-less : tie.Need-loop-less Inv-loop μ-loop
 loop-less c = let m = c .before .before .loop .left in omega (arith, and-le-r m (m - 1))
 
@@ -78,7 +75,7 @@ withdraw-spec =
     add-counts
     mul-counts-2
     element-write-counts
-    sub-left
+    (λ c. search needs)
     loop-less
     loop-again
     returns)

@@ -6,14 +6,8 @@ use borrow.Author.Needs.{needs}
 use Rattle.sound.proofs.connection_sound.Statement.{statement}
 use Rattle.sound.proofs.connection_sound.Tie as tie
 
-read-requires : tie.Need-read-requires
-read-requires c κs = search needs
-
 returns : tie.Need-returns
 returns c = rw (half-one, ← c .before .read .ensures, le-ltb (c .before .read .result) 128 (omega arith))
-
-read-requires-2 : tie.Need-read-requires-2
-read-requires-2 c κs = search needs
 
 returns-2 : tie.Need-returns-2
 returns-2 c = let d = c .before .before .read in
@@ -23,7 +17,7 @@ pub connection-sound-spec : {M : Type 1} → statement M
 connection-sound-spec =
     tie.close
     (tie.spec
-    read-requires
+    (λ c κs. search needs)
     returns
-    read-requires-2
+    (λ c κs. search needs)
     returns-2)

@@ -16,20 +16,8 @@ abbrev μ-loop : tie.MeasureT-loop
 loop-holds : tie.Need-loop-holds Inv-loop μ-loop
 loop-holds c = passed-none _ _
 
-cast-t4 : tie.Need-cast-t4 Inv-loop μ-loop
-cast-t4 c = search needs
-
-connection-sound-requires : tie.Need-connection-sound-requires Inv-loop μ-loop
-connection-sound-requires c κs = search needs
-
 returns : tie.Need-returns Inv-loop μ-loop
 returns c = let l = c .before .before .before .loop in fails-at _ _ (l .i) _ (c .before .connection-sound .ensures) (c .before .before .loop-test .taken) (c .if1 .taken)
-
-add-i : tie.Need-add-i Inv-loop μ-loop
-add-i c = search needs
-
-loop-less : tie.Need-loop-less Inv-loop μ-loop
-loop-less c = search needs
 
 loop-again : tie.Need-loop-again Inv-loop μ-loop
 loop-again c = let l = c .before .before .before .loop in passed-next _ _ (l .i) _ (c .before .connection-sound .ensures) (l .inv) (c .before .before .loop-test .taken) (c .if1 .left)
@@ -44,10 +32,10 @@ connections-sound-spec =
     Inv-loop
     μ-loop
     loop-holds
-    cast-t4
-    connection-sound-requires
+    (λ c. search needs)
+    (λ c κs. search needs)
     returns
-    add-i
-    loop-less
+    (λ c. search needs)
+    (λ c. search needs)
     loop-again
     returns-2)

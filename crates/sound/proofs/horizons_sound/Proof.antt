@@ -18,20 +18,8 @@ abbrev μ-loop : tie.MeasureT-loop
 loop-holds : tie.Need-loop-holds Inv-loop μ-loop
 loop-holds c = passed-none _ _
 
-cast-t6 : tie.Need-cast-t6 Inv-loop μ-loop
-cast-t6 c = search needs
-
-read-requires : tie.Need-read-requires Inv-loop μ-loop
-read-requires c κs = search needs
-
 returns : tie.Need-returns Inv-loop μ-loop
 returns c = let l = c .before .before .before .loop in fails-at _ _ (l .p) (ltb (c .before .read .result) 128) (rw (half-one, ← c .before .read .ensures)) (c .before .before .loop-test .taken) (c .if1 .taken)
-
-add-p : tie.Need-add-p Inv-loop μ-loop
-add-p c = search needs
-
-loop-less : tie.Need-loop-less Inv-loop μ-loop
-loop-less c = search needs
 
 loop-again : tie.Need-loop-again Inv-loop μ-loop
 loop-again c = let l = c .before .before .before .loop in passed-next _ _ (l .p) (ltb (c .before .read .result) 128) (rw (half-one, ← c .before .read .ensures)) (l .inv) (c .before .before .loop-test .taken) (c .if1 .left)
@@ -46,10 +34,10 @@ horizons-sound-spec =
     Inv-loop
     μ-loop
     loop-holds
-    cast-t6
-    read-requires
+    (λ c. search needs)
+    (λ c κs. search needs)
     returns
-    add-p
-    loop-less
+    (λ c. search needs)
+    (λ c. search needs)
     loop-again
     returns-2)

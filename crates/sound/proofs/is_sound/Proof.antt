@@ -7,16 +7,10 @@ use borrow.Author.Needs.{needs}
 use Rattle.sound.proofs.is_sound.Statement.{statement}
 use Rattle.sound.proofs.is_sound.Tie as tie
 
-settings-sound-requires : tie.Need-settings-sound-requires
-settings-sound-requires c κs = search needs
-
 returns : tie.Need-returns
 unfolding sound
 returns c = let settings = c .before .settings-sound in
     (rw (← settings .ensures, not-true (settings .result) (c .if1 .taken)), λ e. absurd (true≢false (sym e)))
-
-stack-sound-requires : tie.Need-stack-sound-requires
-stack-sound-requires c κs = search needs
 
 returns-2 : tie.Need-returns-2
 unfolding sound
@@ -24,9 +18,6 @@ returns-2 c = let a = c .before .before in
     let settings = a .before .settings-sound in
     let stack = c .before .stack-sound in
     (rw (← settings .ensures, not-false (settings .result) (a .if1 .left), ← stack .ensures .0, not-true (stack .result) (c .if2 .taken)), λ e. absurd (true≢false (sym e)))
-
-slots-sound-requires : tie.Need-slots-sound-requires
-slots-sound-requires c κs = search needs
 
 returns-3 : tie.Need-returns-3
 unfolding sound
@@ -41,9 +32,9 @@ pub is-sound-spec : {M : Type 1} → statement M
 is-sound-spec =
     tie.close
     (tie.spec
-    settings-sound-requires
+    (λ c κs. search needs)
     returns
-    stack-sound-requires
+    (λ c κs. search needs)
     returns-2
-    slots-sound-requires
+    (λ c κs. search needs)
     returns-3)

@@ -6,15 +6,6 @@ use borrow.Author.Needs.{needs}
 use Rattle.sound.proofs.offset_sound.Statement.{statement}
 use Rattle.sound.proofs.offset_sound.Tie as tie
 
-later-requires : tie.Need-later-requires
-later-requires c κs = search needs
-
-since-requires : tie.Need-since-requires
-since-requires c κs = search needs
-
-add-result : tie.Need-add-result
-add-result c = search needs
-
 returns : tie.Need-returns
 unfolding bits half low
 returns c = offset-window 1 _ _ _ _ _ (omega arith) (search needs) (search needs) (c .before .before .pre) (c .before .later .ensures) (c .since .ensures)
@@ -23,7 +14,7 @@ pub offset-sound-spec : {M : Type 1} → statement M
 offset-sound-spec =
     tie.close
     (tie.spec
-    later-requires
-    since-requires
-    add-result
+    (λ c κs. search needs)
+    (λ c κs. search needs)
+    (λ c. search needs)
     returns)

@@ -6,16 +6,10 @@ use borrow.Author.Needs.{needs}
 use Rattle.sound.proofs.settings_sound.Statement.{statement}
 use Rattle.sound.proofs.settings_sound.Tie as tie
 
-connections-sound-requires : tie.Need-connections-sound-requires
-connections-sound-requires c κs = search needs
-
 returns : tie.Need-returns
 unfolding settingsSound
 returns c = let connections = c .before .connections-sound in
     rw (← connections .ensures, not-true (connections .result) (c .if1 .taken))
-
-horizons-sound-requires : tie.Need-horizons-sound-requires
-horizons-sound-requires c κs = search needs
 
 returns-2 : tie.Need-returns-2
 unfolding settingsSound
@@ -23,15 +17,6 @@ returns-2 c = let a = c .before .before in
     let connections = a .before .connections-sound in
     let horizons = c .before .horizons-sound in
     rw (← connections .ensures, not-false (connections .result) (a .if1 .left), ← horizons .ensures, not-true (horizons .result) (c .if2 .taken))
-
-read-requires : tie.Need-read-requires
-read-requires c κs = search needs
-
-read-requires-2 : tie.Need-read-requires-2
-read-requires-2 c κs = search needs
-
-read-requires-3 : tie.Need-read-requires-3
-read-requires-3 c κs = search needs
 
 returns-3 : tie.Need-returns-3
 unfolding settingsSound
@@ -45,11 +30,11 @@ pub settings-sound-spec : {M : Type 1} → statement M
 settings-sound-spec =
     tie.close
     (tie.spec
-    connections-sound-requires
+    (λ c κs. search needs)
     returns
-    horizons-sound-requires
+    (λ c κs. search needs)
     returns-2
-    read-requires
-    read-requires-2
-    read-requires-3
+    (λ c κs. search needs)
+    (λ c κs. search needs)
+    (λ c κs. search needs)
     returns-3)

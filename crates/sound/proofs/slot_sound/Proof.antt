@@ -39,49 +39,19 @@ module _ (c : tie.After-since) where
       slot-sound-is board8 _ _ (m .before .read .ensures) (c .before .before .read2 .ensures) (c .before .read3 .ensures) et (c .since .ensures) ev eh
       (e ∙ rw (ne-eqb _ _ (m .if1 .left), le-leb (m .before .read .result) 31 (omega arith)))
 
-read-requires : tie.Need-read-requires
-read-requires c κs = search needs
-
 returns : tie.Need-returns
 returns c = slot-sound-is board8 _ _ (c .before .read .ensures) refl refl refl refl refl refl (rw (eq-eqb _ _ (c .if1 .taken)))
 
 returns-2 : tie.Need-returns-2
 returns-2 c = slot-sound-is board8 _ _ (c .before .before .read .ensures) refl refl refl refl refl refl (rw (ne-eqb _ _ (c .before .if1 .left), lt-leb (c .before .before .read .result) 31 (omega arith)))
 
-read-requires-2 : tie.Need-read-requires-2
-read-requires-2 c κs = search needs
-
-read-requires-3 : tie.Need-read-requires-3
-read-requires-3 c κs = search needs
-
-since-requires : tie.Need-since-requires
-since-requires c κs = search needs
-
 returns-3 : tie.Need-returns-3
 returns-3 c = by-delay (c .before) refl refl refl (rw (le-ltb (c .before .since .result) 128 (omega arith)))
-
-read-requires-4 : tie.Need-read-requires-4
-read-requires-4 c κs = search needs
-
-offset-sound-requires : tie.Need-offset-sound-requires
-offset-sound-requires c κs = search needs
 
 returns-4 : tie.Need-returns-4
 returns-4 c = let d = c .before .before .before .before in
     by-delay d (c .before .before .read4 .ensures) (c .before .offset-sound .ensures) refl
     (rw (lt-ltb (d .since .result) 128 (omega arith), not-true (c .before .offset-sound .result) (c .if4 .taken)))
-
-cast-result : tie.Need-cast-result
-cast-result c = search needs
-
-mul-result : tie.Need-mul-result
-mul-result c = search needs
-
-add-result : tie.Need-add-result
-add-result c = search needs
-
-shared-slice-read-result : tie.Need-shared-slice-read-result
-shared-slice-read-result c = search needs
 
 returns-5 : tie.Need-returns-5
 returns-5 c = let o = c .before .before .before .before in
@@ -93,18 +63,18 @@ pub slot-sound-spec : {M : Type 1} → statement M
 slot-sound-spec =
     tie.close
     (tie.spec
-    read-requires
+    (λ c κs. search needs)
     returns
     returns-2
-    read-requires-2
-    read-requires-3
-    since-requires
+    (λ c κs. search needs)
+    (λ c κs. search needs)
+    (λ c κs. search needs)
     returns-3
-    read-requires-4
-    offset-sound-requires
+    (λ c κs. search needs)
+    (λ c κs. search needs)
     returns-4
-    cast-result
-    mul-result
-    add-result
-    shared-slice-read-result
+    (λ c. search needs)
+    (λ c. search needs)
+    (λ c. search needs)
+    (λ c. search needs)
     returns-5)

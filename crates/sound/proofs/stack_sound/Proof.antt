@@ -12,15 +12,9 @@ use borrow.Author.Needs.{needs}
 use Rattle.sound.proofs.stack_sound.Statement.{statement}
 use Rattle.sound.proofs.stack_sound.Tie as tie
 
-free-count-requires : tie.Need-free-count-requires
-free-count-requires c κs = search needs
-
 returns : tie.Need-returns
 returns c = let n = c .before .free-count in
     (rw (← stack-sound-is board8 _ _ _ _ (n .ensures) refl refl, lt-leb (n .result) 256 (omega arith)), λ e. absurd (true≢false (sym e)))
-
-mark-requires : tie.Need-mark-requires
-mark-requires c κs = search needs
 
 returns-2 : tie.Need-returns-2
 returns-2 c = let n = c .before .before .before .before .free-count in
@@ -42,9 +36,9 @@ pub stack-sound-spec : {M : Type 1} → statement M
 stack-sound-spec =
     tie.close
     (tie.spec
-    free-count-requires
+    (λ c κs. search needs)
     returns
-    mark-requires
+    (λ c κs. search needs)
     returns-2
     all-listed-requires
     returns-3)

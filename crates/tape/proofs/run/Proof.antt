@@ -38,9 +38,6 @@ Inv-loop state₀ memory₀ arrivals₀ block₀ lines₀ end₀ blocks₀ state
 abbrev μ-loop : tie.MeasureT-loop
 μ-loop state₀ memory₀ arrivals₀ block₀ lines₀ end₀ blocks₀ state memory arrivals block lines end blocks = 1099511627776 - blocks
 
-begin-requires : tie.Need-begin-requires Inv-loop μ-loop
-begin-requires c κs = search needs
-
 turn-requires : tie.Need-turn-requires Inv-loop μ-loop
 turn-requires c κs = (search needs, search needs, search needs, omega (arith, ap (λ (p : Place). p .number) (c .before .before .before .before .before .before .before .before .before .before .before .begin .ensures)))
 
@@ -86,21 +83,6 @@ loop-again c =
     let more = turn-more _ _ (take (t .result .count) (t .last .1 .1 .1 .1 .0)) _ (t .ensures .0) (before .0) _ (t .ensures .1 .0 .1) (t .result .written) _ (t .ensures .1 .1) in
     (search needs, omega arith, turn-reached _ _ _ _ (t .ensures .0) (before .0), t .ensures .1 .1, λ e. (more e .0, omega (arith, more e .1, before .1)))
 
-same-length : tie.Need-same-length Inv-loop μ-loop
-same-length c = search needs
-
-same-length-2 : tie.Need-same-length-2 Inv-loop μ-loop
-same-length-2 c = search needs
-
-same-length-3 : tie.Need-same-length-3 Inv-loop μ-loop
-same-length-3 c = search needs
-
-same-length-4 : tie.Need-same-length-4 Inv-loop μ-loop
-same-length-4 c = search needs
-
-same-length-5 : tie.Need-same-length-5 Inv-loop μ-loop
-same-length-5 c = search needs
-
 returns : tie.Need-returns Inv-loop μ-loop
 returns c =
     let l = c .before .before .loop in
@@ -112,16 +94,16 @@ run-spec =
     (tie.spec
     Inv-loop
     μ-loop
-    begin-requires
+    (λ c κs. search needs)
     turn-requires
     loop-holds
     turn-requires-2
     add-blocks
     loop-less
     loop-again
-    same-length
-    same-length-2
-    same-length-3
-    same-length-4
-    same-length-5
+    (λ c. search needs)
+    (λ c. search needs)
+    (λ c. search needs)
+    (λ c. search needs)
+    (λ c. search needs)
     returns)

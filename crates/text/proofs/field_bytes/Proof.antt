@@ -13,15 +13,6 @@ returns-2 : tie.Need-returns-2
 unfolding field
 returns-2 c = rw (ne-eqb _ _ (c .before .if1 .left), eq-eqb _ _ (c .if2 .taken))
 
-hex-digit-requires : tie.Need-hex-digit-requires
-hex-digit-requires c κs = search needs
-
-hex-digit-requires-2 : tie.Need-hex-digit-requires-2
-hex-digit-requires-2 c κs = search needs
-
-letter-requires : tie.Need-letter-requires
-letter-requires c κs = search needs
-
 returns-3 : tie.Need-returns-3
 unfolding field
 returns-3 c =
@@ -31,4 +22,4 @@ returns-3 c =
 pub field-bytes-spec : {M : Type 1} → statement M
 field-bytes-spec =
     tie.close
-    (tie.spec returns returns-2 hex-digit-requires hex-digit-requires-2 letter-requires returns-3)
+    (tie.spec returns returns-2 (λ c κs. search needs) (λ c κs. search needs) (λ c κs. search needs) returns-3)

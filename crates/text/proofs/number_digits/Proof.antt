@@ -15,22 +15,10 @@ Inv-loop number more₀ rest₀ more rest = (more ≤ 14) × (digitsOf more rest
 abbrev μ-loop : tie.MeasureT-loop
 μ-loop number more₀ rest₀ more rest = more
 
-loop-holds : tie.Need-loop-holds Inv-loop μ-loop
-loop-holds c = search needs
-
-sub-result : tie.Need-sub-result Inv-loop μ-loop
-sub-result c = search needs
-
 returns : tie.Need-returns Inv-loop μ-loop
 returns c =
     let l = c .before .before .loop in
     (omega (arith, digits-short (l .more) (l .rest) (c .if1 .taken)), search needs)
-
-sub-more : tie.Need-sub-more Inv-loop μ-loop
-sub-more c = search needs
-
-loop-less : tie.Need-loop-less Inv-loop μ-loop
-loop-less c = search needs
 
 loop-again : tie.Need-loop-again Inv-loop μ-loop
 loop-again c = let l = c .before .before .loop in
@@ -50,10 +38,10 @@ number-digits-spec =
     (tie.spec
     Inv-loop
     μ-loop
-    loop-holds
-    sub-result
+    (λ c. search needs)
+    (λ c. search needs)
     returns
-    sub-more
-    loop-less
+    (λ c. search needs)
+    (λ c. search needs)
     loop-again
     returns-2)

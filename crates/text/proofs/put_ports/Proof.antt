@@ -23,23 +23,11 @@ loop-holds : tie.Need-loop-holds Inv-loop μ-loop
 unfolding portsBelow
 loop-holds c = (search needs, refl, search needs, put-nothing _ _)
 
-put-port-requires : tie.Need-put-port-requires Inv-loop μ-loop
-put-port-requires c κs = search needs
-
-add-port : tie.Need-add-port Inv-loop μ-loop
-add-port c = search needs
-
-loop-less : tie.Need-loop-less Inv-loop μ-loop
-loop-less c = search needs
-
 loop-again : tie.Need-loop-again Inv-loop μ-loop
 loop-again c =
     let l = c .before .before .before .before .before .loop in
     let p = c .before .before .put-port .ensures in
     (search needs, search needs, search needs, put-port-then _ (l .port) (l .inv .3) (p .0))
-
-same-length : tie.Need-same-length Inv-loop μ-loop
-same-length c = search needs
 
 returns : tie.Need-returns Inv-loop μ-loop
 returns c =
@@ -54,9 +42,9 @@ put-ports-spec =
     Inv-loop
     μ-loop
     loop-holds
-    put-port-requires
-    add-port
-    loop-less
+    (λ c κs. search needs)
+    (λ c. search needs)
+    (λ c. search needs)
     loop-again
-    same-length
+    (λ c. search needs)
     returns)

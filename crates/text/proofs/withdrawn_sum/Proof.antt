@@ -19,21 +19,6 @@ loop-holds : tie.Need-loop-holds Inv-loop μ-loop
 unfolding withdrawnBelow
 loop-holds c = (search needs, search needs, refl)
 
-withdrawn-on-requires : tie.Need-withdrawn-on-requires Inv-loop μ-loop
-withdrawn-on-requires c κs = search needs
-
-cast-sum : tie.Need-cast-sum Inv-loop μ-loop
-cast-sum c = search needs
-
-add-sum : tie.Need-add-sum Inv-loop μ-loop
-add-sum c = search needs
-
-add-port : tie.Need-add-port Inv-loop μ-loop
-add-port c = search needs
-
-loop-less : tie.Need-loop-less Inv-loop μ-loop
-loop-less c = search needs
-
 loop-again : tie.Need-loop-again Inv-loop μ-loop
 unfolding withdrawnBelow
 loop-again c =
@@ -53,10 +38,10 @@ withdrawn-sum-spec =
     Inv-loop
     μ-loop
     loop-holds
-    withdrawn-on-requires
-    cast-sum
-    add-sum
-    add-port
-    loop-less
+    (λ c κs. search needs)
+    (λ c. search needs)
+    (λ c. search needs)
+    (λ c. search needs)
+    (λ c. search needs)
     loop-again
     returns)

@@ -19,53 +19,14 @@ loop-holds : tie.Need-loop-holds Inv-loop μ-loop
 loop-holds c = let a = c .before .args in
     (search needs, search needs, laid-none (a .t2) (a .t3) (a .t4) (a .answers .now))
 
-mul-at : tie.Need-mul-at Inv-loop μ-loop
-mul-at c = search needs
-
-add-at : tie.Need-add-at Inv-loop μ-loop
-add-at c = search needs
-
-mul-count : tie.Need-mul-count Inv-loop μ-loop
-mul-count c = search needs
-
-array-read-count : tie.Need-array-read-count Inv-loop μ-loop
-array-read-count c = search needs
-
-array-read-answers : tie.Need-array-read-answers Inv-loop μ-loop
-array-read-answers c = search needs
-
-slice-write-answers : tie.Need-slice-write-answers Inv-loop μ-loop
-slice-write-answers c = search needs
-
-array-read-answers-2 : tie.Need-array-read-answers-2 Inv-loop μ-loop
-array-read-answers-2 c = search needs
-
-add-answers : tie.Need-add-answers Inv-loop μ-loop
-add-answers c = search needs
-
 slice-write-answers-2 : tie.Need-slice-write-answers-2 Inv-loop μ-loop
 slice-write-answers-2 c = simp length-set (omega arith)
-
-high-requires : tie.Need-high-requires Inv-loop μ-loop
-high-requires c κs = search needs
 
 slice-write-answers-3 : tie.Need-slice-write-answers-3 Inv-loop μ-loop
 slice-write-answers-3 c = simp length-set (omega arith)
 
-low-requires : tie.Need-low-requires Inv-loop μ-loop
-low-requires c κs = search needs
-
-add-answers-2 : tie.Need-add-answers-2 Inv-loop μ-loop
-add-answers-2 c = search needs
-
 slice-write-answers-4 : tie.Need-slice-write-answers-4 Inv-loop μ-loop
 slice-write-answers-4 c = simp length-set (omega arith)
-
-add-port : tie.Need-add-port Inv-loop μ-loop
-add-port c = search needs
-
-loop-less : tie.Need-loop-less Inv-loop μ-loop
-loop-less c = search needs
 
 loop-again : tie.Need-loop-again Inv-loop μ-loop
 loop-again c =
@@ -74,9 +35,6 @@ loop-again c =
     let a = h .before .before .before .before .args in
     let q = h .before .before .before .before .pre in
     (search needs, simp length-set (l .inv .1), rw (c .low .ensures, h .high .ensures, l .inv .2) (laid-next (a .t2) (a .t3) (a .t4) (a .answers .now) q (l .port) (h .before .loop-test .taken)))
-
-same-length : tie.Need-same-length Inv-loop μ-loop
-same-length c = search needs
 
 returns : tie.Need-returns Inv-loop μ-loop
 returns c =
@@ -92,22 +50,22 @@ put-answers-spec =
     Inv-loop
     μ-loop
     loop-holds
-    mul-at
-    add-at
-    mul-count
-    array-read-count
-    array-read-answers
-    slice-write-answers
-    array-read-answers-2
-    add-answers
+    (λ c. search needs)
+    (λ c. search needs)
+    (λ c. search needs)
+    (λ c. search needs)
+    (λ c. search needs)
+    (λ c. search needs)
+    (λ c. search needs)
+    (λ c. search needs)
     slice-write-answers-2
-    high-requires
+    (λ c κs. search needs)
     slice-write-answers-3
-    low-requires
-    add-answers-2
+    (λ c κs. search needs)
+    (λ c. search needs)
     slice-write-answers-4
-    add-port
-    loop-less
+    (λ c. search needs)
+    (λ c. search needs)
     loop-again
-    same-length
+    (λ c. search needs)
     returns)

@@ -4,29 +4,11 @@ use Rattle.tick.proofs.Steps.{ticked-is}
 use Rattle.tick.proofs.work.Statement.{statement}
 use Rattle.tick.proofs.work.Tie as tie
 
-arrive-requires : tie.Need-arrive-requires
-arrive-requires c κs = search needs
-
 serve-and-settle-requires : tie.Need-serve-and-settle-requires
 serve-and-settle-requires c κs =
     let a = c .before .before .before .before .before .before .before in
     let p = a .before .before .before .before .before .before .before .before .pre in
     ((search needs, search needs, search needs), a .arrive .ensures .1 .1 (p .5))
-
-put-answers-requires : tie.Need-put-answers-requires
-put-answers-requires c κs = search needs
-
-same-length : tie.Need-same-length
-same-length c = search needs
-
-same-length-2 : tie.Need-same-length-2
-same-length-2 c = search needs
-
-same-length-3 : tie.Need-same-length-3
-same-length-3 c = search needs
-
-same-length-4 : tie.Need-same-length-4
-same-length-4 c = search needs
 
 returns : tie.Need-returns
 returns c =
@@ -40,11 +22,11 @@ pub work-spec : {M : Type 1} → statement M
 work-spec =
     tie.close
     (tie.spec
-    arrive-requires
+    (λ c κs. search needs)
     serve-and-settle-requires
-    put-answers-requires
-    same-length
-    same-length-2
-    same-length-3
-    same-length-4
+    (λ c κs. search needs)
+    (λ c. search needs)
+    (λ c. search needs)
+    (λ c. search needs)
+    (λ c. search needs)
     returns)

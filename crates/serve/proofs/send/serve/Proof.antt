@@ -29,29 +29,11 @@ loop-holds : tie.Need-loop-holds Inv-loop μ-loop
 unfolding sends portsBelow
 loop-holds c = (search needs, refl, refl, refl, c .before .before .pre .0 .2)
 
-mul-g : tie.Need-mul-g Inv-loop μ-loop
-mul-g c = search needs
-
-array-copy-out-g : tie.Need-array-copy-out-g Inv-loop μ-loop
-array-copy-out-g c = search needs
-
-cast-serve-port : tie.Need-cast-serve-port Inv-loop μ-loop
-cast-serve-port c = search needs
-
 serve-port-requires : tie.Need-serve-port-requires Inv-loop μ-loop
 serve-port-requires c κs = let c₄ = c .before .before .before .before in
     let l = c₄ .loop in
     let c₇ = c₄ .before .before .before in
     ((c₇ .pre .0 .0, l .inv .1 ∙ c₇ .pre .0 .1), (search needs, λ i. rw (l .inv .4) (sends-lt (grantAt (c₇ .args .t4)) (l .p) i)))
-
-array-write-codes : tie.Need-array-write-codes Inv-loop μ-loop
-array-write-codes c = search needs
-
-add-p : tie.Need-add-p Inv-loop μ-loop
-add-p c = search needs
-
-loop-less : tie.Need-loop-less Inv-loop μ-loop
-loop-less c = search needs
 
 loop-again : tie.Need-loop-again Inv-loop μ-loop
 unfolding sends
@@ -71,9 +53,6 @@ loop-again c = let c₂ = c .before .before in
       rw (add-one (l .p)) (e .1 .1 ∙ rw (l .inv .4)),
     )
 
-same-length : tie.Need-same-length Inv-loop μ-loop
-same-length c = search needs
-
 returns : tie.Need-returns Inv-loop μ-loop
 returns c = let l = c .before .loop in
     let c₄ = c .before .before .before .before in
@@ -92,13 +71,13 @@ serve-spec =
     Inv-loop
     μ-loop
     loop-holds
-    mul-g
-    array-copy-out-g
-    cast-serve-port
+    (λ c. search needs)
+    (λ c. search needs)
+    (λ c. search needs)
     serve-port-requires
-    array-write-codes
-    add-p
-    loop-less
+    (λ c. search needs)
+    (λ c. search needs)
+    (λ c. search needs)
     loop-again
-    same-length
+    (λ c. search needs)
     returns)

@@ -6,27 +6,9 @@ use Rattle.tapes.specs.Printed.{refusedArrival}
 use Rattle.tapes.proofs.printing.put_refused_arrival.Statement.{statement}
 use Rattle.tapes.proofs.printing.put_refused_arrival.Tie as tie
 
-add-byte : tie.Need-add-byte
-add-byte c = search needs
-
-byte-requires : tie.Need-byte-requires
-byte-requires c κs = search needs
-
 returns : tie.Need-returns
 unfolding refusedArrival
 returns c = (rw (← c .before .byte .ensures, lt-leb 6 _ (c .if1 .taken)) (put-nothing _ _), search needs)
-
-mul-put-refused : tie.Need-mul-put-refused
-mul-put-refused c = search needs
-
-array-read-put-refused : tie.Need-array-read-put-refused
-array-read-put-refused c = search needs
-
-put-refused-requires : tie.Need-put-refused-requires
-put-refused-requires c κs = search needs
-
-same-length : tie.Need-same-length
-same-length c = search needs
 
 returns-2 : tie.Need-returns-2
 unfolding refusedArrival
@@ -38,11 +20,11 @@ pub put-refused-arrival-spec : {M : Type 1} → statement M
 put-refused-arrival-spec =
     tie.close
     (tie.spec
-    add-byte
-    byte-requires
+    (λ c. search needs)
+    (λ c κs. search needs)
     returns
-    mul-put-refused
-    array-read-put-refused
-    put-refused-requires
-    same-length
+    (λ c. search needs)
+    (λ c. search needs)
+    (λ c κs. search needs)
+    (λ c. search needs)
     returns-2)

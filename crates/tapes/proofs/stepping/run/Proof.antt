@@ -25,42 +25,9 @@ Inv-loop state₀ memory₀ arrivals₀ block lines₀ count number pending₀ a
 abbrev μ-loop : tie.MeasureT-loop
 μ-loop state₀ memory₀ arrivals₀ block lines₀ count number pending₀ at₀ i₀ state memory arrivals lines pending at i = count - i
 
-add-count : tie.Need-add-count Inv-loop μ-loop
-add-count c = search needs
-
 loop-holds : tie.Need-loop-holds Inv-loop μ-loop
 unfolding after linesOf
 loop-holds c = (search needs, refl, put-nothing _ _)
-
-mul-start : tie.Need-mul-start Inv-loop μ-loop
-mul-start c = search needs
-
-record-end-requires : tie.Need-record-end-requires Inv-loop μ-loop
-record-end-requires c κs = search needs
-
-add-step : tie.Need-add-step Inv-loop μ-loop
-add-step c = search needs
-
-add-step-2 : tie.Need-add-step-2 Inv-loop μ-loop
-add-step-2 c = search needs
-
-sub-step : tie.Need-sub-step Inv-loop μ-loop
-sub-step c = search needs
-
-part-step-start : tie.Need-part-step-start Inv-loop μ-loop
-part-step-start c = search needs
-
-part-step-end : tie.Need-part-step-end Inv-loop μ-loop
-part-step-end c = search needs
-
-step-requires : tie.Need-step-requires Inv-loop μ-loop
-step-requires c κs = search needs
-
-add-i : tie.Need-add-i Inv-loop μ-loop
-add-i c = search needs
-
-loop-less : tie.Need-loop-less Inv-loop μ-loop
-loop-less c = search needs
 
 loop-again : tie.Need-loop-again Inv-loop μ-loop
 loop-again c =
@@ -69,21 +36,6 @@ loop-again c =
     let l = ended .before .before .loop in
     let e = rw (ended .record-end .ensures .2) at (stepped .step .ensures) in
     (search needs, tape-then _ _ _ (l .i) _ (l .inv .1) _ (e .0), lines-then _ _ _ (l .i) _ (l .inv .1) (l .inv .2) (e .1 .0))
-
-add-t35 : tie.Need-add-t35 Inv-loop μ-loop
-add-t35 c = search needs
-
-same-length : tie.Need-same-length Inv-loop μ-loop
-same-length c = search needs
-
-same-length-2 : tie.Need-same-length-2 Inv-loop μ-loop
-same-length-2 c = search needs
-
-same-length-3 : tie.Need-same-length-3 Inv-loop μ-loop
-same-length-3 c = search needs
-
-same-length-4 : tie.Need-same-length-4 Inv-loop μ-loop
-same-length-4 c = search needs
 
 returns : tie.Need-returns Inv-loop μ-loop
 returns c =
@@ -99,22 +51,22 @@ run-spec =
     (tie.spec
     Inv-loop
     μ-loop
-    add-count
+    (λ c. search needs)
     loop-holds
-    mul-start
-    record-end-requires
-    add-step
-    add-step-2
-    sub-step
-    part-step-start
-    part-step-end
-    step-requires
-    add-i
-    loop-less
+    (λ c. search needs)
+    (λ c κs. search needs)
+    (λ c. search needs)
+    (λ c. search needs)
+    (λ c. search needs)
+    (λ c. search needs)
+    (λ c. search needs)
+    (λ c κs. search needs)
+    (λ c. search needs)
+    (λ c. search needs)
     loop-again
-    add-t35
-    same-length
-    same-length-2
-    same-length-3
-    same-length-4
+    (λ c. search needs)
+    (λ c. search needs)
+    (λ c. search needs)
+    (λ c. search needs)
+    (λ c. search needs)
     returns)

@@ -5,36 +5,6 @@ use Rattle.events.specs.Tape.{Taken}
 use Rattle.tapes.proofs.stepping.step.Statement.{statement}
 use Rattle.tapes.proofs.stepping.step.Tie as tie
 
-slice-aggregate-take-record : tie.Need-slice-aggregate-take-record
-slice-aggregate-take-record c = search needs
-
-slice-aggregate-take-record-2 : tie.Need-slice-aggregate-take-record-2
-slice-aggregate-take-record-2 c = search needs
-
-take-record-requires : tie.Need-take-record-requires
-take-record-requires c κs = search needs
-
-slice-aggregate-put-event : tie.Need-slice-aggregate-put-event
-slice-aggregate-put-event c = search needs
-
-slice-aggregate-put-event-2 : tie.Need-slice-aggregate-put-event-2
-slice-aggregate-put-event-2 c = search needs
-
-put-event-requires : tie.Need-put-event-requires
-put-event-requires c κs = search needs
-
-same-length : tie.Need-same-length
-same-length c = search needs
-
-same-length-2 : tie.Need-same-length-2
-same-length-2 c = search needs
-
-same-length-3 : tie.Need-same-length-3
-same-length-3 c = search needs
-
-same-length-4 : tie.Need-same-length-4
-same-length-4 c = search needs
-
 returns : tie.Need-returns
 returns c =
     let printed = c .before .before in
@@ -45,14 +15,14 @@ pub step-spec : {M : Type 1} → statement M
 step-spec =
     tie.close
     (tie.spec
-    slice-aggregate-take-record
-    slice-aggregate-take-record-2
-    take-record-requires
-    slice-aggregate-put-event
-    slice-aggregate-put-event-2
-    put-event-requires
-    same-length
-    same-length-2
-    same-length-3
-    same-length-4
+    (λ c. search needs)
+    (λ c. search needs)
+    (λ c κs. search needs)
+    (λ c. search needs)
+    (λ c. search needs)
+    (λ c κs. search needs)
+    (λ c. search needs)
+    (λ c. search needs)
+    (λ c. search needs)
+    (λ c. search needs)
     returns)
