@@ -51,9 +51,8 @@ fn settle_slot(
     ensures counts { λ _. ⌜ EachPort (slotCount board8 (now (state .entry)) (t .0) (s .0) sent (now (counts .entry))) (now (counts .exit)) ⌝ }
     ensures after { λ _. ⌜ now (state .exit) ≡ slotAfter board8 (now (state .entry)) (t .0) (s .0) sent ⌝ }
 {
-    let due = layout::get(state, Field::Deadline(s)) == t.0;
     if sent == 0 {
-        if !due {
+        if layout::get(state, Field::Deadline(s)) != t.0 {
             return;
         }
     }
@@ -62,7 +61,7 @@ fn settle_slot(
         return;
     }
     let left = mask - sent;
-    if due {
+    if layout::get(state, Field::Deadline(s)) == t.0 {
         give_back(state, s);
         withdraw(left % 32, counts);
         return;
