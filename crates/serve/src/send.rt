@@ -30,14 +30,25 @@ fn send_nothing(outgoing: &mut [u8], port: u8)
     layout::copy_in(&k, outgoing, Router::PACKET * (port as usize));
 }
 
+// A slot's packet, by way of an array: the compiler can't tell the areas apart, and moves whole words only between the array and each of them.
+fn packet(memory: &[u8], s: SlotAddress) -> [u8; Router::PACKET]
+    requires { ⌜ length (now memory) ≡ Areas.memoryLength ⌝ }
+    ensures { λ r. ⌜ r ≡ Areas.packet (now (memory .entry)) (s .0) ⌝ }
+{
+    let a = Router::PACKET * (s.0 as usize);
+    let e = a + Router::PACKET;
+    let mut k = [0u8; Router::PACKET];
+    layout::copy_in(&memory[a..e], &mut k, 0);
+    k
+}
+
 // The port sends the slot's packet.
 fn send(memory: &[u8], outgoing: &mut [u8], port: u8, s: SlotAddress)
     requires { ⌜ (length (now memory) ≡ Areas.memoryLength) × (length (now outgoing) ≡ Areas.outgoingLength) × (port < 5) ⌝ }
     ensures { λ _. ⌜ now (outgoing .exit) ≡ sets (now (outgoing .entry)) (Areas.packetLength * port) (Areas.packet (now (memory .entry)) (s .0)) ⌝ }
 {
-    let a = Router::PACKET * (s.0 as usize);
-    let e = a + Router::PACKET;
-    layout::copy_in(&memory[a..e], outgoing, Router::PACKET * (port as usize));
+    let k = packet(memory, s);
+    layout::copy_in(&k, outgoing, Router::PACKET * (port as usize));
 }
 
 // The port joins the ports that send the slot.
