@@ -3,6 +3,7 @@ ghost use mathlib.Core.Path.{_≡_};
 ghost use mathlib.Core.Bool.{cond};
 ghost use Prim.Native.Nat.{suc, _<_};
 ghost use lib.ListN.{length};
+ghost use Rattle.rules.specs.Areas.{nobody, bestEffort};
 ghost use Rattle.rules.specs.Board.{clock};
 ghost use Rattle.rules.specs.Board8.{board8};
 ghost use Rattle.rules.specs.Tick.{grant};
@@ -101,11 +102,21 @@ fn scan(state: &[u8], end: usize) -> [u32; Router::PORTS]
     bests
 }
 
-// A port sends the ranks below this: the on-time ones and, where best-effort doesn't wait, those of early slots within the horizon, which are below `ahead`.
+// A port sends early slots whose ranks are below this: none where best-effort waits, else those within the horizon, which are below `ahead`.
 fn bound(waits: bool, ahead: u32) -> u32
     ensures { λ r. ⌜ r ≡ cond waits 65536 ahead ⌝ }
 {
     if waits { EARLY } else { ahead }
+}
+
+// Who has a port that sends no packet.
+fn unsent(waits: bool) -> Grant
+    ensures { λ r. ⌜ grantOf r ≡ cond waits bestEffort nobody ⌝ }
+{
+    if waits {
+        return Grant::BestEffort;
+    }
+    Grant::Nobody
 }
 
 // Who has a port, by its least rank.
@@ -114,18 +125,18 @@ fn choose(state: &[u8], waiting: u8, port: u8, best: u32) -> Grant
     ensures { λ r. ⌜ grantOf r ≡ grant board8 (now (state .entry)) waiting port ⌝ }
 {
     let slot = SlotAddress((best % 256) as u8);
+    if best < EARLY {
+        return Grant::OnTime(slot);
+    }
     let waits = layout::has_port(waiting, port);
+    if NONE <= best {
+        return unsent(waits);
+    }
     let horizon = layout::get(state, Field::Horizon(port));
     if best < bound(waits, EARLY + (horizon as u32 + 1) * 256) {
-        if best < EARLY {
-            return Grant::OnTime(slot);
-        }
         return Grant::Early(slot);
     }
-    if waits {
-        return Grant::BestEffort;
-    }
-    Grant::Nobody
+    unsent(waits)
 }
 
 // Who has each port, best-effort waiting where the mask says; the slots from `end` on are empty.

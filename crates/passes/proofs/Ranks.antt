@@ -2,7 +2,7 @@
 -- is that of the least key; and it says whom the port is granted. Assumes nothing.
 use Prim.Native.Nat.{ℕ, suc, _+_, _*_, _%_, _^_, _<_, _≤_}
 use mathlib.Core.Path.{_≡_, refl, sym, ap, subst, _∙_}
-use mathlib.Core.Bool.{Bool, true, false, cond, not}
+use mathlib.Core.Bool.{Bool, true, false, cond}
 use mathlib.Core.List.{List}
 use mathlib.Core.Option.{Option, none, some}
 use native.Mathlib.Decide.{decLt, decLe}
@@ -14,7 +14,7 @@ use lib.ListN.{replicate, getD-replicate}
 use borrow.Author.Tests.{lt-ltb, le-ltb, lt-leb, le-leb}
 use Rattle.rules.specs.Clock.{minus, offset}
 use Rattle.rules.specs.Indices.{better, least}
-use Rattle.rules.specs.Areas.{bits, has, Grant, nobody, bestEffort, onTime, early}
+use Rattle.rules.specs.Areas.{bits, has, nobody, bestEffort, onTime, early}
 use Rattle.rules.specs.Board.{Board, clock, horizon, time, deadline, mask}
 use Rattle.rules.specs.Order.{by, then, Key, onTimeFirst, comparator}
 use Rattle.rules.specs.Tick.{granted, slotKey, candidate, grant}
@@ -24,7 +24,7 @@ use Rattle.rules.proofs.IndexLaws.{least-in}
 use Rattle.rules.proofs.Masks.{has-zero}
 use Rattle.rules.proofs.Offsets.{above}
 use Rattle.passes.specs.Ports.{EachPort, changed}
-use Rattle.passes.specs.Ranks.{lesser, rank, rankOf, bound, chosen, slotRank, best}
+use Rattle.passes.specs.Ranks.{lesser, rank, rankOf, bound, slotRank, best}
 use Rattle.passes.proofs.MaskPorts.{has-low}
 
 -- ---- ranks and the comparator
@@ -68,33 +68,44 @@ module _ (turn : ℕ) where
       go true = refl
       go false = refl
 
-  -- What the least rank says, the least key says: an on-time rank is below every bound, and an early one exactly if best-effort doesn't wait and its key is at most the
-  -- horizon.
-  chosen-granted : (v : Option (ℕ × Key ℕ)) → Small 256 v → (b : Bool) (h : ℕ) → h < turn → chosen turn (rankOf turn v) b h ≡ granted v b h
+  -- An on-time rank is that of a packet on time, and the highest rank is no packet's.
+  granted-on-time : (v : Option (ℕ × Key ℕ)) → Small 256 v → (b : Bool) (h : ℕ) → rankOf turn v < turn * 256 → onTime (rankOf turn v % 256) ≡ granted v b h
   unfolding rankOf granted
-  chosen-granted none s b h l = rw (le-ltb (2 * turn * 256) (bound turn b h) (highest b))
+  granted-on-time none s b h l = absurd (omega arith)
+  granted-on-time (some (i, k)) s b h l = go (k .early) l
     where
-      highest : (b : Bool) → bound turn b h ≤ 2 * turn * 256
-      highest true = omega arith
-      highest false = omega arith
-  chosen-granted (some (i, k)) s b h l = go (k .early)
+      go : (a : Bool) → cond a (turn * 256) 0 + k .key * 256 + i < turn * 256 → onTime ((cond a (turn * 256) 0 + k .key * 256 + i) % 256) ≡ cond a (cond b bestEffort (cond (leb (k .key) h) (early i) nobody)) (onTime i)
+      go true l = absurd (omega arith)
+      go false l = ap onTime (omega arith)
+
+  granted-none : (v : Option (ℕ × Key ℕ)) → Small 256 v → (b : Bool) (h : ℕ) → 2 * turn * 256 ≤ rankOf turn v → cond b bestEffort nobody ≡ granted v b h
+  unfolding rankOf granted
+  granted-none none s b h l = refl
+  granted-none (some (i, k)) s b h l = absurd (go (k .early) l)
+    where
+      go : (a : Bool) → 2 * turn * 256 ≤ cond a (turn * 256) 0 + k .key * 256 + i → ⊥
+      go true l = omega arith
+      go false l = omega arith
+
+  -- An early rank is sent exactly if it is below the bound: best-effort doesn't wait, and the key is at most the horizon.
+  granted-early : (v : Option (ℕ × Key ℕ)) → Small 256 v → (b : Bool) (h : ℕ) → turn * 256 ≤ rankOf turn v → rankOf turn v < 2 * turn * 256
+      → cond (ltb (rankOf turn v) (bound turn b h)) (early (rankOf turn v % 256)) (cond b bestEffort nobody) ≡ granted v b h
+  unfolding rankOf granted
+  granted-early none s b h l m = absurd (omega arith)
+  granted-early (some (i, k)) s b h l m = go (k .early) l
     where
       x : ℕ
       x = k .key
 
-      lowest : (b : Bool) → x * 256 + i < bound turn b h
-      lowest true = omega arith
-      lowest false = omega arith
-
-      far : (b : Bool) → Dec (x ≤ h) → (r : ℕ) → r ≡ turn * 256 + x * 256 + i
-          → cond (ltb r (bound turn b h)) (cond (ltb r (turn * 256)) (onTime (r % 256)) (early (r % 256))) (cond b bestEffort nobody) ≡ cond b bestEffort (cond (leb x h) (early i) nobody)
+      far : (b : Bool) → Dec (x ≤ h) → (r : ℕ) → r ≡ turn * 256 + x * 256 + i → cond (ltb r (bound turn b h)) (early (r % 256)) (cond b bestEffort nobody) ≡ cond b bestEffort (cond (leb x h) (early i) nobody)
       far true d r e = rw (le-ltb r (turn * 256) (omega arith))
-      far false (yes m) r e = rw (lt-ltb r (turn * 256 + (h + 1) * 256) (omega arith), le-ltb r (turn * 256) (omega arith), le-leb x h m) (ap early (omega arith))
+      far false (yes m) r e = rw (lt-ltb r (turn * 256 + (h + 1) * 256) (omega arith), le-leb x h m) (ap early (omega arith))
       far false (no m) r e = rw (le-ltb r (turn * 256 + (h + 1) * 256) (omega arith), lt-leb x h (omega arith))
 
-      go : (a : Bool) → chosen turn (cond a (turn * 256) 0 + x * 256 + i) b h ≡ cond a (cond b bestEffort (cond (leb x h) (early i) nobody)) (onTime i)
-      go false = let q = lowest b in rw (lt-ltb (0 + x * 256 + i) (bound turn b h) (omega arith), lt-ltb (0 + x * 256 + i) (turn * 256) (omega arith)) (ap onTime (omega arith))
-      go true = far b (decLe x h) (turn * 256 + x * 256 + i) refl
+      go : (a : Bool) → turn * 256 ≤ cond a (turn * 256) 0 + x * 256 + i
+          → cond (ltb (cond a (turn * 256) 0 + x * 256 + i) (bound turn b h)) (early ((cond a (turn * 256) 0 + x * 256 + i) % 256)) (cond b bestEffort nobody) ≡ cond a (cond b bestEffort (cond (leb x h) (early i) nobody)) (onTime i)
+      go false l = absurd (omega arith)
+      go true l = far b (decLe x h) (turn * 256 + x * 256 + i) refl
 
 module _ (B : Board) where
   open Board B using (clockBytes as c, get)
@@ -174,24 +185,28 @@ module _ (B : Board) where
 
   -- ---- whom the least rank grants the port, by the tests of the code
 
-  -- The horizon is h, and m the bound of the ranks that the port sends, b where best-effort waits.
-  module _ (s : List ℕ) (waiting p r : ℕ) (er : r ≡ best B s 256 p) (h : ℕ) (eh : h ≡ get s (horizon p)) (small : h < turn) (b : Bool) (eb : b ≡ has waiting p)
-      (m : ℕ) (em : m ≡ bound turn b h) where
-    abbrev Grants : Grant ℕ → Type 0
-    Grants g = g ≡ grant B s waiting p
+  module _ (s : List ℕ) (waiting p r : ℕ) (er : r ≡ best B s 256 p) where
+    abbrev winner : Option (ℕ × Key ℕ)
+    winner = least (comparator ltb) (candidate B s p) 256
 
-    chosen-grant : Grants (cond (ltb r m) (cond (ltb r (turn * 256)) (onTime (r % 256)) (early (r % 256))) (cond b bestEffort nobody))
+    pub grants-on-time : r < turn * 256 → onTime (r % 256) ≡ grant B s waiting p
     unfolding grant best
-    chosen-grant = rw (em, eb, er, ← eh) (chosen-granted turn (least (comparator ltb) (candidate B s p) 256) (least-small s p 256) (has waiting p) h small)
+    grants-on-time l = rw er (granted-on-time turn winner (least-small s p 256) (has waiting p) (get s (horizon p)) (rw er at l))
 
-    pub grants-on-time : r < m → r < turn * 256 → Grants (onTime (r % 256))
-    grants-on-time l n = rw (lt-ltb r m l, lt-ltb r (turn * 256) n) at chosen-grant
+    -- b where best-effort waits.
+    module _ (b : Bool) (eb : b ≡ has waiting p) where
+      pub grants-none : 2 * turn * 256 ≤ r → cond b bestEffort nobody ≡ grant B s waiting p
+      unfolding grant best
+      grants-none l = rw eb (granted-none turn winner (least-small s p 256) (has waiting p) (get s (horizon p)) (rw er at l))
 
-    pub grants-early : r < m → turn * 256 ≤ r → Grants (early (r % 256))
-    grants-early l n = rw (lt-ltb r m l, le-ltb r (turn * 256) n) at chosen-grant
+      -- The horizon is h, and m the bound of the early ranks that the port sends.
+      module _ (h : ℕ) (eh : h ≡ get s (horizon p)) (m : ℕ) (em : m ≡ bound turn b h) (low : turn * 256 ≤ r) (high : r < 2 * turn * 256) where
+        bounded : cond (ltb r m) (early (r % 256)) (cond b bestEffort nobody) ≡ grant B s waiting p
+        unfolding grant best
+        bounded = rw (em, eb, er, ← eh) (granted-early turn winner (least-small s p 256) (has waiting p) h (rw er at low) (rw er at high))
 
-    pub grants-best-effort : m ≤ r → b ≡ true → Grants bestEffort
-    grants-best-effort l e = rw (le-ltb r m l, e) at chosen-grant
+        pub grants-early : r < m → early (r % 256) ≡ grant B s waiting p
+        grants-early l = rw (lt-ltb r m l) at bounded
 
-    pub grants-nobody : m ≤ r → b ≡ false → Grants nobody
-    grants-nobody l e = rw (le-ltb r m l, e) at chosen-grant
+        pub grants-unsent : m ≤ r → cond b bestEffort nobody ≡ grant B s waiting p
+        grants-unsent l = rw (le-ltb r m l) at bounded

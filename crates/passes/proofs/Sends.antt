@@ -1,6 +1,6 @@
 -- Step 3 for five ports at once: no port's grant depends on another port, so that all may choose before any leaves a mask; and what the sent masks gain, the masks
 -- lose. Assumes nothing.
-use Prim.Native.Nat.{ℕ, zero, suc, _+_, _-_, _*_, _%_, _^_, _<_, _≤_}
+use Prim.Native.Nat.{ℕ, zero, suc, _+_, _-_, _^_, _<_, _≤_}
 use mathlib.Core.Path.{_≡_, refl, sym, ap, ap₂, _∙_}
 use mathlib.Core.Bool.{Bool, true, false, cond}
 use mathlib.Core.List.{List}
@@ -12,7 +12,7 @@ use lib.Pow.{pow-pos}
 use lib.ListN.{length, length-set, getD, set, replicate}
 use lib.Seq.{getD-set-same, getD-set-other, set-out}
 use lib.Dec.{leb, ltb}
-use Rattle.rules.specs.Areas.{bits, has, without, portsBelow, perPort, Grant, nobody, bestEffort, onTime, early}
+use Rattle.rules.specs.Areas.{has, without, perPort, Grant, nobody, bestEffort, onTime, early}
 use Rattle.rules.specs.Board.{Board, clock, horizon, time, deadline, mask}
 use Rattle.rules.specs.Indices.{least, better}
 use Rattle.rules.specs.Order.{Order, Key, comparator}

@@ -2,7 +2,7 @@
 -- Assumes nothing.
 use Prim.Native.Nat.{ℕ, zero, suc, _+_, _<_, _≤_}
 use mathlib.Core.Path.{_≡_, refl, sym, ap, _∙_}
-use mathlib.Core.Bool.{Bool, true, false, cond, not, _&&_, and-false}
+use mathlib.Core.Bool.{Bool, true, false, cond, _&&_}
 use mathlib.Core.List.{List, [], _∷_}
 use mathlib.Core.Logic.{_≢_}
 use native.Mathlib.Decide.{ℕ-discrete}
@@ -14,7 +14,7 @@ use Rattle.rules.specs.Areas.{has, perPort, Grant}
 use Rattle.rules.specs.Board.{Board, clock, free, deadline, mask}
 use Rattle.rules.specs.Indices.{count}
 use Rattle.rules.specs.Questions.{occupied, used}
-use Rattle.rules.specs.Tick.{isDue, withdrawn, withdrawals, giveBack, returned}
+use Rattle.rules.specs.Tick.{isDue, withdrawn, withdrawals, returned}
 use Rattle.rules.proofs.BoardLaws.{Laws}
 use Rattle.rules.proofs.IndexLaws.{count-same}
 use Rattle.rules.proofs.Integers.{ltb-iff}

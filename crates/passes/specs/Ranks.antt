@@ -1,11 +1,11 @@
 -- A slot's key and address as one number, the least of them for a port, and whom it grants the port. Assumes nothing.
-use Prim.Native.Nat.{ℕ, _+_, _*_, _%_, _^_}
+use Prim.Native.Nat.{ℕ, _+_, _*_, _^_}
 use mathlib.Core.Bool.{Bool, cond}
 use mathlib.Core.List.{List}
 use mathlib.Core.Option.{Option, none, some}
 use lib.Dec.{ltb}
 use Rattle.rules.specs.Indices.{least}
-use Rattle.rules.specs.Areas.{bits, Grant, nobody, bestEffort, onTime, early}
+use Rattle.rules.specs.Areas.{bits, early}
 use Rattle.rules.specs.Board.{Board}
 use Rattle.rules.specs.Order.{Key, comparator}
 use Rattle.rules.specs.Tick.{slotKey, candidate}
@@ -25,13 +25,9 @@ module _ (turn : ℕ) where
   rankOf (some (i, k)) = rank i k
   rankOf none = 2 * turn * 256
 
-  -- A port sends the ranks below this: b where best-effort waits, h the horizon.
+  -- A port sends the early ranks below this: b where best-effort waits, h the horizon.
   abbrev pub bound : Bool → ℕ → ℕ
   bound b h = cond b (turn * 256) (turn * 256 + (h + 1) * 256)
-
-  -- Who has a port with the least rank r.
-  abbrev pub chosen : ℕ → Bool → ℕ → Grant ℕ
-  chosen r b h = cond (ltb r (bound b h)) (cond (ltb r (turn * 256)) (onTime (r % 256)) (early (r % 256))) (cond b bestEffort nobody)
 
 module _ (B : Board) where
   -- The rank of slot i, for each port in its mask.
