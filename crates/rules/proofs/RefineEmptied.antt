@@ -86,7 +86,7 @@ module _ (B : Board) (L : Laws B) where
 
   -- ---- both steps
 
-  -- `held` is a state whose slots had a port to serve just where the places hold a packet.
+  -- `before` is a state whose slots had a port to serve just where the places hold a packet.
   module _ {r : Store} {w : Router} (R : Rel B L r w) (K : Kept (w .place) (w .free)) (F : AllHeld (HeldInWindow c (w .clock) (half c)) (w .place))
       (before : List ℕ) (was : (i : ℕ) → i < 256 → eqb (get before (mask i)) 0 ≡ not (isHeld (w .place i))) where
     abbrev t : ℤ

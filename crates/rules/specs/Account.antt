@@ -51,7 +51,7 @@ unfoldable pub leftOn : ℕ → Packet → (ℕ → Option Held) → ℕ
 leftOn p x place = count 256 (λ i. isLeft x (toServe (place i) p))
 
 -- x was accepted by a tick of h, and bears its clock and port. What ties it to what is stored and sent: x is the packet of that tick's report (`arrival`, Whole), which is the one that
--- takes a place (`admitted`, Whole) and whose bytes go out (`Lawful.sent`); whatever is sent, withdrawn or still stored was accepted (`Genuine`, `Stored`), and no two accepted packets are the same (`unique`).
+-- takes a place (`admitted`, Whole) and whose bytes go out (`Permitted.sent`); whatever is sent, withdrawn or still stored was accepted (`Genuine`, `Stored`), and no two accepted packets are the same (`unique`).
 unfoldable pub Accepted : List NotedTick → Packet → Type 0
 Accepted h x = (d : NotedTick) × (p : ℕ) × List·Memᴰ d h × (p < 5) × (d .report .arrival p ≡ accepted x) × (x .arrived ≡ d .met .clock) × (x .input ≡ p)
 

@@ -110,7 +110,7 @@ module _ (B : Board) where
   abbrev pub giveBack : ℕ → List ℕ → List ℕ
   giveBack i s = put (put s (idle (get s free)) i) free (get s free + 1)
 
-  -- Step 5 for the slots below i: those that had a port to serve in `held` and have none now.
+  -- Step 5 for the slots below i: those that had a port to serve in `before` and have none now.
   unfoldable pub returned : ℕ → List ℕ → List ℕ → List ℕ
   returned zero before s = s
   returned (suc i) before s =
