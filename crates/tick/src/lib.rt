@@ -2,7 +2,8 @@
 ghost use mathlib.Core.Path.{_≡_};
 ghost use Prim.Native.Nat.{_/_, _%_};
 ghost use lib.ListN.{length};
-ghost use Rattle.rules.specs.Areas.{byte, answersLength, answersArea};
+ghost use mathlib.Core.List.{[], _∷_};
+ghost use Rattle.rules.specs.Areas.{byte, perPort, answersLength, answersArea};
 ghost use Rattle.rules.specs.Board8.{board8};
 ghost use Rattle.rules.specs.Tick.{Outcome, ticked};
 ghost use Rattle.layout.specs.Room.{Lent};
@@ -26,7 +27,21 @@ fn low(n: u16) -> u8
     (n % 256) as u8
 }
 
-// Lays out the answers: per port its code, what its arrival met, and how many were withdrawn, in two bytes, high first.
+// Lays out how many packets were withdrawn per port, in two bytes, high first.
+fn put_counts(part: &mut [u8], counts: [u16; Router::PORTS])
+    requires { ⌜ length (now part) ≡ 10 ⌝ }
+    ensures { λ _. ⌜ now (part .exit) ≡ perPort (λ p. byte counts p / 256 ∷ byte counts p % 256 ∷ []) ⌝ }
+{
+    let mut port = 0;
+    while port < Router::PORTS {
+        let count = counts[port];
+        part[2 * port] = high(count);
+        part[2 * port + 1] = low(count);
+        port += 1;
+    }
+}
+
+// Lays out the answers: per port its code, what its arrival met, and how many were withdrawn.
 pub fn put_answers(
     answers: &mut [u8],
     codes: [u8; Router::PORTS],
@@ -36,16 +51,9 @@ pub fn put_answers(
     requires { ⌜ length (now answers) ≡ answersLength ⌝ }
     ensures { λ _. ⌜ now (answers .exit) ≡ answersArea (byte codes) (byte met) (byte counts) ⌝ }
 {
-    let mut port = 0;
-    while port < Router::PORTS {
-        let at = WITHDRAWN + 2 * port;
-        let count = counts[port];
-        answers[port] = codes[port];
-        answers[ARRIVALS + port] = met[port];
-        answers[at] = high(count);
-        answers[at + 1] = low(count);
-        port += 1;
-    }
+    layout::copy_in(&codes, answers, 0);
+    layout::copy_in(&met, answers, ARRIVALS);
+    put_counts(&mut answers[WITHDRAWN..], counts);
 }
 
 // The six steps, of a sound state.
