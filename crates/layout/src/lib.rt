@@ -180,14 +180,14 @@ pub fn put(state: &mut [u8], f: Field, b: u8)
 }
 
 pub fn free_count(state: &[u8]) -> u16
-    requires { ⌜ length (now state) ≡ 1804 ⌝ }
+    requires { ⌜ length (now state) ≡ board8 .stateLength ⌝ }
     ensures { λ r. ⌜ r ≡ board8 .get (now (state .entry)) free ⌝ }
 {
     (state[10] as u16) * 256 + state[11] as u16
 }
 
 pub fn put_free(state: &mut [u8], n: u16)
-    requires { ⌜ length (now state) ≡ 1804 ⌝ }
+    requires { ⌜ length (now state) ≡ board8 .stateLength ⌝ }
     ensures { λ _. ⌜ now (state .exit) ≡ board8 .put (now (state .entry)) free n ⌝ }
 {
     state[10] = (n / 256) as u8;
