@@ -11,7 +11,7 @@ use lib.Signed.{ltZ}
 use borrow.Author.Tests.{ltb-true, eqb-true}
 use Rattle.rules.specs.Clock.{cut, minus, offset}
 use Rattle.rules.specs.Areas.{Store, bits, packet, has}
-use Rattle.rules.specs.Board.{clock, mask}
+use Rattle.rules.specs.Board.{Mask, clock}
 use Rattle.rules.specs.Board8.{board8}
 use Rattle.rules.specs.Tick as Bytes
 use Rattle.rules.specs.Whole.{Router, Held, start, packetBytes}
@@ -74,7 +74,7 @@ module _ (r : Row) (h : r .from < 256) (P : Proper 1 (start (r .from)) (r .earli
   done = ended (r .from) h (r .earlier) (r .tick) (nines 100) (nines 20) P
 
   -- A slot's mask is what its place has left.
-  mask-left : (s : Store) (i : ℕ) (v : Option Held) → SlotShows board8 lawful8 s i v → board8 .get (s .state) (mask i) ≡ ports-left v
+  mask-left : (s : Store) (i : ℕ) (v : Option Held) → SlotShows board8 lawful8 s i v → board8 .get (s .state) (Mask, i) ≡ ports-left v
   unfolding ports-left
   mask-left s i none S = S
   mask-left s i (some x) S = S .left

@@ -8,7 +8,7 @@ use lib.IntN.{ℤ, pos, _-ℤ_}
 use lib.Signed.{ltZ}
 use Rattle.rules.specs.Areas.{Store, Reply, packet, has}
 use Rattle.rules.specs.Order.{Key}
-use Rattle.rules.specs.Board.{clock, mask}
+use Rattle.rules.specs.Board.{Mask, clock}
 use Rattle.rules.specs.Board8.{board8}
 use Rattle.rules.specs.Tick as Bytes
 use Rattle.rules.specs.Tick.{Outcome}
@@ -95,12 +95,12 @@ candidateOnBytes r i =
     let s = arrived r .state in
     let k = packet (arrived r .memory) i in
     let o = outcome r in
-    cond (has (board8 .get s (mask i)) 0)
+    cond (has (board8 .get s (Mask, i)) 0)
     (some (record {
       slot = i;
       bytes = k;
       key = whole (Bytes.slotKey board8 s i);
-      fate = fateOf (has (board8 .get (o .store .state) (mask i)) 0) (sameBytes k (packet (o .reply .outgoing) 0));
+      fate = fateOf (has (board8 .get (o .store .state) (Mask, i)) 0) (sameBytes k (packet (o .reply .outgoing) 0));
     })) none
 
 unfoldable pub onBytes : Row → Seen

@@ -5,12 +5,12 @@ use Rattle.layout.specs.declared.Field.the-variants.{Clock, Horizon, Lat
 
 abbrev pub fieldOf : Field → Board.Field
 fieldOf Clock = Board.clock
-fieldOf (Horizon p) = Board.horizon p
-fieldOf (Latch r) = Board.latch r
-fieldOf (Idle i) = Board.idle i
-fieldOf (Time i) = Board.time (i .0)
-fieldOf (Deadline i) = Board.deadline (i .0)
-fieldOf (Mask i) = Board.mask (i .0)
-fieldOf (Outgoing i) = Board.outgoing (i .0)
-fieldOf (Delay i) = Board.delay (i .0)
-fieldOf (Routes i) = Board.routes (i .0)
+fieldOf (Horizon p) = (Board.Horizon, p)
+fieldOf (Latch r) = (Board.Latch, r)
+fieldOf (Idle i) = (Board.Idle, i)
+fieldOf (Time i) = (Board.Time, i .0)
+fieldOf (Deadline i) = (Board.Deadline, i .0)
+fieldOf (Mask i) = (Board.Mask, i .0)
+fieldOf (Outgoing i) = (Board.Outgoing, i .0)
+fieldOf (Delay i) = (Board.Delay, i .0)
+fieldOf (Routes i) = (Board.Routes, i .0)

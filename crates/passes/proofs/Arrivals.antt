@@ -13,7 +13,7 @@ use lib.Signed.{leZ}
 use borrow.Author.Tests.{eqb-false}
 use Rattle.rules.specs.Clock.{plus, offset}
 use Rattle.rules.specs.Areas.{Store, packetLength, byte, bits, packet, stamp, payload, packed, has, portsBelow, perPort}
-use Rattle.rules.specs.Board.{Board, clock, free, idle, time, deadline, mask, outgoing, delay, routes}
+use Rattle.rules.specs.Board.{Board, Idle, Time, Deadline, Mask, Outgoing, Delay, Routes, clock, free}
 use Rattle.rules.specs.Questions.{used}
 use Rattle.rules.specs.Asked.{asked, arrivalQuestions, arrivalAnswer}
 use Rattle.rules.specs.Tick.{arrivalRefusal, arrival, placed, admitted, arrived}
@@ -46,14 +46,14 @@ module _ (B : Board) where
   -- ---- what an arrival meets
 
   -- Question 7, read by read.
-  pub inTime-read : (s k : List ℕ) {x t d : ℕ} {a : Bool} → x ≡ stamp c k → t ≡ get s clock → d ≡ get s (delay (byte k 0)) → a ≡ leZ (negℤ (pos d)) (offset (bits c) x t) → a ≡ inTime B s k
+  pub inTime-read : (s k : List ℕ) {x t d : ℕ} {a : Bool} → x ≡ stamp c k → t ≡ get s clock → d ≡ get s (Delay, byte k 0) → a ≡ leZ (negℤ (pos d)) (offset (bits c) x t) → a ≡ inTime B s k
   inTime-read s k ex et ed ea = rw (ea, ex, et, ed)
 
   -- A stored packet has an idle address to take.
   pub stored-has-free : (s k : List ℕ) (arriving p : ℕ) → arrival B s arriving p k ≡ 1 → 0 < get s free
   unfolding arrival arrivalRefusal
   stored-has-free s k arriving p e =
-      let m = get s (routes (byte k 0)) in
+      let m = get s (Routes, byte k 0) in
       let n = get s free in
       let h : (n ≡ 0 → ⊥) = eqb-false n 0 (not-false (eqb n 0) (only-stored (has arriving p) (not (eqb m 0)) (inTime B s k) (not (eqb n 0)) e)) in
       omega arith
@@ -63,26 +63,26 @@ module _ (B : Board) where
   -- Read by read and store by store.
   pub placed-is : (r : Store) (k : List ℕ) {x d y m o n i : ℕ} {l s₁ s₂ s₃ s₄ : List ℕ}
       → x ≡ stamp c k
-      → d ≡ get (r .state) (delay (byte k 0))
+      → d ≡ get (r .state) (Delay, byte k 0)
       → y ≡ plus (bits c) x d
-      → m ≡ get (r .state) (routes (byte k 0))
-      → o ≡ get (r .state) (outgoing (byte k 0))
+      → m ≡ get (r .state) (Routes, byte k 0)
+      → o ≡ get (r .state) (Outgoing, byte k 0)
       → n ≡ get (r .state) free
-      → i ≡ get (r .state) (idle (n - 1))
+      → i ≡ get (r .state) (Idle, n - 1)
       → l ≡ sets (r .memory) (packetLength * i) (packed c o y (payload c k))
       → s₁ ≡ put (r .state) free (n - 1)
-      → s₂ ≡ put s₁ (time i) x
-      → s₃ ≡ put s₂ (deadline i) y
-      → s₄ ≡ put s₃ (mask i) m
+      → s₂ ≡ put s₁ (Time, i) x
+      → s₃ ≡ put s₂ (Deadline, i) y
+      → s₄ ≡ put s₃ (Mask, i) m
       → store s₄ l ≡ placed B r k
   unfolding placed
   placed-is r k ex ed ey em eo en ei el e₁ e₂ e₃ e₄ = rw (e₄, e₃, e₂, e₁, el, ei, en, eo, em, ey, ed, ex)
 
   -- It leaves room: the stack has one address less, and the slots one packet more at the most.
-  pub placed-leaves-room : (L : Laws B) (r : Store) (k : List ℕ) {n i : ℕ} {r′ : Store} → length (r .state) ≡ stateLength → 0 < get (r .state) free → n ≡ get (r .state) free → i ≡ get (r .state) (idle (n - 1)) → i < 256
+  pub placed-leaves-room : (L : Laws B) (r : Store) (k : List ℕ) {n i : ℕ} {r′ : Store} → length (r .state) ≡ stateLength → 0 < get (r .state) free → n ≡ get (r .state) free → i ≡ get (r .state) (Idle, n - 1) → i < 256
       → r′ ≡ placed B r k → used B (r .state) ≤ 256 → used B (r′ .state) ≤ 256
   placed-leaves-room L r k sized some en ei hi e room =
-      let small = subst (λ (m : ℕ). get (r .state) (idle (m - 1)) < 256) en (subst (λ (m : ℕ). m < 256) ei hi) in
+      let small = subst (λ (m : ℕ). get (r .state) (Idle, m - 1) < 256) en (subst (λ (m : ℕ). m < 256) ei hi) in
       let u = placed-used B L r k sized some small in
       subst (λ (s : List ℕ). used B s ≤ 256) (sym (ap (λ (x : Store). x .state) e)) (omega arith)
 

@@ -15,7 +15,7 @@ use borrow.Author.Tests.{lt-ltb, le-ltb, lt-leb, le-leb}
 use Rattle.rules.specs.Clock.{minus, offset}
 use Rattle.rules.specs.Indices.{better, least}
 use Rattle.rules.specs.Areas.{bits, has, nobody, bestEffort, onTime, early}
-use Rattle.rules.specs.Board.{Board, clock, horizon, time, deadline, mask}
+use Rattle.rules.specs.Board.{Board, Horizon, Time, Deadline, Mask, clock}
 use Rattle.rules.specs.Order.{by, then, Key, onTimeFirst, comparator}
 use Rattle.rules.specs.Tick.{granted, slotKey, candidate, grant}
 use Rattle.rules.proofs.Booleans.{some-inj, none-some}
@@ -121,14 +121,14 @@ module _ (B : Board) where
   key-lt s i = minus-lt (bits c) _ _
 
   -- A slot's rank, by its time u and whether the offset of that is at most 0, as the code finds it.
-  module _ (s : List ℕ) (i t u k : ℕ) (et : t ≡ get s clock) (eu : u ≡ get s (time i)) where
-    pub rank-on-time : leZ (offset (bits c) u t) (pos 0) ≡ true → (d : ℕ) → d ≡ get s (deadline i) → k ≡ minus (bits c) d t → k * 256 + i ≡ slotRank B s i
+  module _ (s : List ℕ) (i t u k : ℕ) (et : t ≡ get s clock) (eu : u ≡ get s (Time, i)) where
+    pub rank-on-time : leZ (offset (bits c) u t) (pos 0) ≡ true → (d : ℕ) → d ≡ get s (Deadline, i) → k ≡ minus (bits c) d t → k * 256 + i ≡ slotRank B s i
     unfolding slotKey
-    rank-on-time o d ed ek = rw (above (pos 0) (offset (bits c) (get s (time i)) (get s clock)), ← et, ← eu, o, ← ed, ← ek) (omega arith)
+    rank-on-time o d ed ek = rw (above (pos 0) (offset (bits c) (get s (Time, i)) (get s clock)), ← et, ← eu, o, ← ed, ← ek) (omega arith)
 
     pub rank-early : leZ (offset (bits c) u t) (pos 0) ≡ false → k ≡ minus (bits c) u t → turn * 256 + k * 256 + i ≡ slotRank B s i
     unfolding slotKey
-    rank-early o ek = rw (above (pos 0) (offset (bits c) (get s (time i)) (get s clock)), ← et, ← eu, o, ← ek)
+    rank-early o ek = rw (above (pos 0) (offset (bits c) (get s (Time, i)) (get s clock)), ← et, ← eu, o, ← ek)
 
   -- A least key is one of the slots'.
   least-small : (s : List ℕ) (p n : ℕ) → Small turn n (least (comparator ltb) (candidate B s p) n)
@@ -141,10 +141,10 @@ module _ (B : Board) where
 
       go : (v : Option (ℕ × Key ℕ)) → least (comparator ltb) (candidate B s p) n ≡ v → Small turn n v
       go none e = tt
-      go (some (i, k)) e = let h = least-in (comparator ltb) (candidate B s p) n i k e in (h .0, keyed (has (get s (mask i)) p) i k (h .1))
+      go (some (i, k)) e = let h = least-in (comparator ltb) (candidate B s p) n i k e in (h .0, keyed (has (get s (Mask, i)) p) i k (h .1))
 
   -- A slot that the port doesn't look at leaves it.
-  best-without : (s : List ℕ) (i p : ℕ) → has (get s (mask i)) p ≡ false → best B s i p ≡ best B s (suc i) p
+  best-without : (s : List ℕ) (i p : ℕ) → has (get s (Mask, i)) p ≡ false → best B s i p ≡ best B s (suc i) p
   unfolding best least candidate better
   best-without s i p z = rw z (go (least (comparator ltb) (candidate B s p) i))
     where
@@ -153,7 +153,7 @@ module _ (B : Board) where
       go (some w) = refl
 
   -- Any other makes it the lesser.
-  best-with : (s : List ℕ) (i p : ℕ) → i < 256 → has (get s (mask i)) p ≡ true → lesser (slotRank B s i) (best B s i p) ≡ best B s (suc i) p
+  best-with : (s : List ℕ) (i p : ℕ) → i < 256 → has (get s (Mask, i)) p ≡ true → lesser (slotRank B s i) (best B s i p) ≡ best B s (suc i) p
   unfolding best least candidate
   best-with s i p h z = rw z (rank-better turn i (slotKey B s i) h (key-lt s i) (least (comparator ltb) (candidate B s p) i) (least-small s p i))
 
@@ -165,8 +165,8 @@ module _ (B : Board) where
   bests-start s = record { five = refl; each = λ p h. getD-replicate 5 p (2 * turn * 256) 0 h }
 
   -- Slot i looked at, of whose mask m the code tests the five low bits, and offered to the ports there.
-  module _ (s : List ℕ) (i : ℕ) (h : i < 256) (m : ℕ) (em : m ≡ get s (mask i)) (l : List ℕ) (E : EachPort (best B s i) l) where
-    low : (p : ℕ) → p < 5 → (t : Bool) → has (m % 32) p ≡ t → has (get s (mask i)) p ≡ t
+  module _ (s : List ℕ) (i : ℕ) (h : i < 256) (m : ℕ) (em : m ≡ get s (Mask, i)) (l : List ℕ) (E : EachPort (best B s i) l) where
+    low : (p : ℕ) → p < 5 → (t : Bool) → has (m % 32) p ≡ t → has (get s (Mask, i)) p ≡ t
     low p hp t e = ap (λ (x : ℕ). has x p) (sym em) ∙ sym (has-low m p hp) ∙ e
 
     pub bests-suc : (r : ℕ) → r ≡ slotRank B s i → (l′ : List ℕ) → EachPort (changed (lesser r) (m % 32) l) l′ → EachPort (best B s (suc i)) l′
@@ -180,7 +180,7 @@ module _ (B : Board) where
     bests-none z = record { five = E .five; each = λ p hp. E .each p hp ∙ best-without s i p (low p hp false (rw z (has-zero p hp))) }
 
   -- An empty slot changes none.
-  pub best-empty : (s : List ℕ) (p : ℕ) → p < 5 → (i : ℕ) → i < 256 → get s (mask i) ≡ 0 → best B s i p ≡ best B s (suc i) p
+  pub best-empty : (s : List ℕ) (p : ℕ) → p < 5 → (i : ℕ) → i < 256 → get s (Mask, i) ≡ 0 → best B s i p ≡ best B s (suc i) p
   best-empty s p hp i h z = best-without s i p (rw z (has-zero p hp))
 
   -- ---- whom the least rank grants the port, by the tests of the code
@@ -191,16 +191,16 @@ module _ (B : Board) where
 
     pub grants-on-time : r < turn * 256 → onTime (r % 256) ≡ grant B s waiting p
     unfolding grant best
-    grants-on-time l = rw er (granted-on-time turn winner (least-small s p 256) (has waiting p) (get s (horizon p)) (rw er at l))
+    grants-on-time l = rw er (granted-on-time turn winner (least-small s p 256) (has waiting p) (get s (Horizon, p)) (rw er at l))
 
     -- b where best-effort waits.
     module _ (b : Bool) (eb : b ≡ has waiting p) where
       pub grants-none : 2 * turn * 256 ≤ r → cond b bestEffort nobody ≡ grant B s waiting p
       unfolding grant best
-      grants-none l = rw eb (granted-none turn winner (least-small s p 256) (has waiting p) (get s (horizon p)) (rw er at l))
+      grants-none l = rw eb (granted-none turn winner (least-small s p 256) (has waiting p) (get s (Horizon, p)) (rw er at l))
 
       -- The horizon is h, and m the bound of the early ranks that the port sends.
-      module _ (h : ℕ) (eh : h ≡ get s (horizon p)) (m : ℕ) (em : m ≡ bound turn b h) (low : turn * 256 ≤ r) (high : r < 2 * turn * 256) where
+      module _ (h : ℕ) (eh : h ≡ get s (Horizon, p)) (m : ℕ) (em : m ≡ bound turn b h) (low : turn * 256 ≤ r) (high : r < 2 * turn * 256) where
         bounded : cond (ltb r m) (early (r % 256)) (cond b bestEffort nobody) ≡ grant B s waiting p
         unfolding grant best
         bounded = rw (em, eb, er, ← eh) (granted-early turn winner (least-small s p 256) (has waiting p) h (rw er at low) (rw er at high))

@@ -13,7 +13,7 @@ use lib.ListN.{length, length-set, getD, set, replicate}
 use lib.Seq.{getD-set-same, getD-set-other, set-out}
 use lib.Dec.{leb, ltb}
 use Rattle.rules.specs.Areas.{has, without, perPort, Grant, nobody, bestEffort, onTime, early}
-use Rattle.rules.specs.Board.{Board, clock, horizon, time, deadline, mask}
+use Rattle.rules.specs.Board.{Board, Horizon, Time, Deadline, Mask, clock}
 use Rattle.rules.specs.Indices.{least, better}
 use Rattle.rules.specs.Order.{Order, Key, comparator}
 use Rattle.rules.specs.Tick.{granted, slotKey, candidate, grant, sent, served}
@@ -73,7 +73,7 @@ module _ (B : Board) (L : Laws B) where
     abbrev left : ℕ → ℕ → ℕ
     left p = portsLeft B s (sends g p)
 
-    left-none : (j : ℕ) → left 0 j ≡ get s (mask j)
+    left-none : (j : ℕ) → left 0 j ≡ get s (Mask, j)
     unfolding sends
     left-none j = omega (arith, getD-zeros 256 j)
 
@@ -92,39 +92,39 @@ module _ (B : Board) (L : Laws B) where
     left-other p i j n = rw (getD-set-other (sends g p) i j (getD (sends g p) i 0 + 2 ^ p) 0 n)
 
     -- The ports from p on are left where they were.
-    left-has : (p : ℕ) → p ≤ 5 → (q : ℕ) → p ≤ q → q < 5 → (j : ℕ) → has (left p j) q ≡ has (get s (mask j)) q
+    left-has : (p : ℕ) → p ≤ 5 → (q : ℕ) → p ≤ q → q < 5 → (j : ℕ) → has (left p j) q ≡ has (get s (Mask, j)) q
     unfolding sends joined
     left-has zero h q l hq j = ap (λ (m : ℕ). has m q) (left-none j)
     left-has (suc p) h q l hq j = go (left-has p (omega arith)) (g p) (wins p (omega arith))
       where
         Before : Type 0
-        Before = (q : ℕ) → p ≤ q → q < 5 → (j : ℕ) → has (left p j) q ≡ has (get s (mask j)) q
+        Before = (q : ℕ) → p ≤ q → q < 5 → (j : ℕ) → has (left p j) q ≡ has (get s (Mask, j)) q
 
-        one : Before → (i : ℕ) → (i < 256) × (has (get s (mask i)) p ≡ true) → Dec (j ≡ i) → has (portsLeft B s (joins p i) j) q ≡ has (get s (mask j)) q
+        one : Before → (i : ℕ) → (i < 256) × (has (get s (Mask, i)) p ≡ true) → Dec (j ≡ i) → has (portsLeft B s (joins p i) j) q ≡ has (get s (Mask, j)) q
         one before i (hi, w) (yes e) =
             rw (e, left-here p i hi (before p (omega arith) (omega arith) i ∙ w)) (has-without (left p i) p q (omega arith) hq (λ k. omega arith) ∙ before q (omega arith) hq i)
         one before i (hi, w) (no n) = ap (λ (m : ℕ). has m q) (sym (left-other p i j n)) ∙ before q (omega arith) hq j
 
-        go : Before → (h : Grant ℕ) → Winner B s p h → has (portsLeft B s (joined p h (sends g p)) j) q ≡ has (get s (mask j)) q
+        go : Before → (h : Grant ℕ) → Winner B s p h → has (portsLeft B s (joined p h (sends g p)) j) q ≡ has (get s (Mask, j)) q
         go before nobody w = before q (omega arith) hq j
         go before bestEffort w = before q (omega arith) hq j
         go before (onTime i) w = one before i w (ℕ-discrete j i)
         go before (early i) w = one before i w (ℕ-discrete j i)
 
     -- No more ports send a slot than its mask has.
-    pub sends-le : (p : ℕ) → p ≤ 5 → (j : ℕ) → getD (sends g p) j 0 ≤ get s (mask j)
+    pub sends-le : (p : ℕ) → p ≤ 5 → (j : ℕ) → getD (sends g p) j 0 ≤ get s (Mask, j)
     unfolding sends joined
     sends-le zero h j = let z = getD-zeros 256 j in omega arith
     sends-le (suc p) h j = go (sends-le p (omega arith) j) (g p) (wins p (omega arith))
       where
-        one : getD (sends g p) j 0 ≤ get s (mask j) → (i : ℕ) → (i < 256) × (has (get s (mask i)) p ≡ true) → Dec (j ≡ i) → getD (joins p i) j 0 ≤ get s (mask j)
+        one : getD (sends g p) j 0 ≤ get s (Mask, j) → (i : ℕ) → (i < 256) × (has (get s (Mask, i)) p ≡ true) → Dec (j ≡ i) → getD (joins p i) j 0 ≤ get s (Mask, j)
         one k i (hi, w) (yes e) =
             let n = length-sends g p in
             let q = without-bit (left p i) p (left-has p (omega arith) p (omega arith) (omega arith) i ∙ w) in
             rw (e, getD-set-same (sends g p) i (getD (sends g p) i 0 + 2 ^ p) 0 (omega arith)) (let m = pow-pos p in omega arith)
         one k i (hi, w) (no n) = rw (getD-set-other (sends g p) i j (getD (sends g p) i 0 + 2 ^ p) 0 n) k
 
-        go : getD (sends g p) j 0 ≤ get s (mask j) → (h : Grant ℕ) → Winner B s p h → getD (joined p h (sends g p)) j 0 ≤ get s (mask j)
+        go : getD (sends g p) j 0 ≤ get s (Mask, j) → (h : Grant ℕ) → Winner B s p h → getD (joined p h (sends g p)) j 0 ≤ get s (Mask, j)
         go k nobody w = k
         go k bestEffort w = k
         go k (onTime i) w = one k i w (ℕ-discrete j i)
@@ -133,10 +133,10 @@ module _ (B : Board) (L : Laws B) where
     -- After step 3 the masks are what is left, and nothing else has changed.
     pub sentBy-masked : length s ≡ stateLength → (p : ℕ) → p ≤ 5 → sentBy B g p s ≡ masked B L (portsLeft B s (sends g p)) s 256
     unfolding sends joined sentBy sent
-    sentBy-masked sized zero h = sym (masked-same B L (left 0) (λ j. get s (mask j)) s 256 (λ j l. left-none j) ∙ masked-own B L s 256 (omega arith))
+    sentBy-masked sized zero h = sym (masked-same B L (left 0) (λ j. get s (Mask, j)) s 256 (λ j l. left-none j) ∙ masked-own B L s 256 (omega arith))
     sentBy-masked sized (suc p) h = ap (sent B p (g p)) (sentBy-masked sized p (omega arith)) ∙ go (g p) (wins p (omega arith))
       where
-        one : (i : ℕ) → (i < 256) × (has (get s (mask i)) p ≡ true) → let y = masked B L (left p) s 256 in put y (mask i) (without (get y (mask i)) p) ≡ masked B L (portsLeft B s (joins p i)) s 256
+        one : (i : ℕ) → (i < 256) × (has (get s (Mask, i)) p ≡ true) → let y = masked B L (left p) s 256 in put y (Mask, i) (without (get y (Mask, i)) p) ≡ masked B L (portsLeft B s (joins p i)) s 256
         one i (hi, w) =
             let f = left-has p (omega arith) p (omega arith) (omega arith) i ∙ w in
             rw (mask-masked B L (left p) s sized i 256 hi (omega arith), ← left-here p i hi f)
@@ -159,7 +159,7 @@ module _ (B : Board) (L : Laws B) where
       keyed true i k e = refl
       keyed false i k e = none-some e
 
-      pick : (i : ℕ) → (i < 256) × (has (get s (mask i)) p ≡ true) → (a b d : Bool) → Winner B s p (cond a (cond b bestEffort (cond d (early i) nobody)) (onTime i))
+      pick : (i : ℕ) → (i < 256) × (has (get s (Mask, i)) p ≡ true) → (a b d : Bool) → Winner B s p (cond a (cond b bestEffort (cond d (early i) nobody)) (onTime i))
       pick i h false b d = h
       pick i h true true d = tt
       pick i h true false true = h
@@ -169,11 +169,11 @@ module _ (B : Board) (L : Laws B) where
       nobody-else true = tt
       nobody-else false = tt
 
-      go : (v : Option (ℕ × Key ℕ)) → least (comparator ltb) (candidate B s p) 256 ≡ v → Winner B s p (granted v (has waiting p) (get s (horizon p)))
+      go : (v : Option (ℕ × Key ℕ)) → least (comparator ltb) (candidate B s p) 256 ≡ v → Winner B s p (granted v (has waiting p) (get s (Horizon, p)))
       go none e = nobody-else (has waiting p)
       go (some (i, k)) e =
           let h = least-in (comparator ltb) (candidate B s p) 256 i k e in
-          pick i (h .0, keyed (has (get s (mask i)) p) i k (h .1)) (k .early) (has waiting p) (leb (k .key) (get s (horizon p)))
+          pick i (h .0, keyed (has (get s (Mask, i)) p) i k (h .1)) (k .early) (has waiting p) (leb (k .key) (get s (Horizon, p)))
 
   -- Equal keys have one least.
   least-cong : {A : Type 0} (less : Order A) (f g : ℕ → Option A) (n : ℕ) → ((i : ℕ) → i < n → f i ≡ g i) → least less f n ≡ least less g n
@@ -183,18 +183,18 @@ module _ (B : Board) (L : Laws B) where
 
   module _ (s : List ℕ) (sized : length s ≡ stateLength) (waiting : ℕ) where
     -- Port q looks at its own bit of the masks only.
-    grant-masked : (f : ℕ → ℕ) (q : ℕ) → q < 5 → ((j : ℕ) → has (f j) q ≡ has (get s (mask j)) q) → grant B (masked B L f s 256) waiting q ≡ grant B s waiting q
+    grant-masked : (f : ℕ → ℕ) (q : ℕ) → q < 5 → ((j : ℕ) → has (f j) q ≡ has (get s (Mask, j)) q) → grant B (masked B L f s 256) waiting q ≡ grant B s waiting q
     unfolding grant candidate slotKey
     grant-masked f q hq h =
-        rw (least-cong (comparator ltb) (candidate B (masked B L f s 256) q) (candidate B s q) 256 same, get-masked B L f s sized (horizon q) hq refl 256 (omega arith))
+        rw (least-cong (comparator ltb) (candidate B (masked B L f s 256) q) (candidate B s q) 256 same, get-masked B L f s sized (Horizon, q) hq refl 256 (omega arith))
       where
         same : (i : ℕ) → i < 256 → candidate B (masked B L f s 256) q i ≡ candidate B s q i
         same i l =
             rw (
               mask-masked B L f s sized i 256 l (omega arith),
               h i,
-              get-masked B L f s sized (time i) l refl 256 (omega arith),
-              get-masked B L f s sized (deadline i) l refl 256 (omega arith),
+              get-masked B L f s sized (Time, i) l refl 256 (omega arith),
+              get-masked B L f s sized (Deadline, i) l refl 256 (omega arith),
               get-masked B L f s sized clock (omega arith) refl 256 (omega arith),
             )
 

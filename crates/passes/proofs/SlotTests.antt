@@ -7,14 +7,14 @@ use lib.IntN.{pos, negℤ}
 use lib.Signed.{leZ}
 use Rattle.rules.specs.Clock.{minus, offset}
 use Rattle.rules.specs.Areas.{Store, bits, half, packet, stamp}
-use Rattle.rules.specs.Board.{Board, clock, time, deadline, mask}
+use Rattle.rules.specs.Board.{Board, Time, Deadline, Mask, clock}
 use Rattle.rules.specs.Questions.{slotSound}
 
 module _ (B : Board) (r : Store) (i : ℕ) where
   open Board B using (clockBytes as c, get)
 
   -- From the mask m, time x, deadline y, clock t, d = y - x, v for the offset's bounds and the header h.
-  pub slot-sound-is : {m x y t d h : ℕ} {v w : Bool} → m ≡ get (r .state) (mask i) → x ≡ get (r .state) (time i) → y ≡ get (r .state) (deadline i) → t ≡ get (r .state) clock
+  pub slot-sound-is : {m x y t d h : ℕ} {v w : Bool} → m ≡ get (r .state) (Mask, i) → x ≡ get (r .state) (Time, i) → y ≡ get (r .state) (Deadline, i) → t ≡ get (r .state) clock
       → d ≡ minus (bits c) y x → v ≡ (leZ (negℤ (pos d)) (offset (bits c) x t) && leZ (offset (bits c) x t) (pos (half c - 2))) → h ≡ stamp c (packet (r .memory) i)
       → w ≡ (eqb m 0 || (leb m 31 && ltb d (half c) && v && eqb h y)) → w ≡ slotSound B r i
   unfolding slotSound

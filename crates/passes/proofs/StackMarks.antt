@@ -12,7 +12,7 @@ use lib.Dec.{leb, eqb}
 use borrow.Author.Tests.{eq-eqb, ne-eqb}
 use Rattle.rules.specs.Indices.{all, topFirst}
 use Rattle.rules.specs.Areas.{elem, distinct}
-use Rattle.rules.specs.Board.{Board, free, idle}
+use Rattle.rules.specs.Board.{Board, Idle, free}
 use Rattle.rules.specs.Questions.{stack, listed, stackSound}
 use Rattle.rules.specs.Questions.{used}
 use Rattle.rules.proofs.BoardLaws.{Laws}
@@ -33,21 +33,21 @@ module _ (B : Board) (s : List ℕ) where
   })
 
   -- One entry more, a: its slot is marked, and the entries stay different if it had no mark.
-  module _ (i a : ℕ) (e : a ≡ get s (idle i)) (h : a < 256) (seen : List Bool) (d : Bool) (M : Marked B s i seen d) where
+  module _ (i a : ℕ) (e : a ≡ get s (Idle, i)) (h : a < 256) (seen : List Bool) (d : Bool) (M : Marked B s i seen d) where
     marks-next : (b : ℕ) → b < 256 → getD (set seen a true) b false ≡ elem b (entries B s (suc i))
     unfolding topFirst elem
     marks-next b l = go (ℕ-discrete b a)
       where
-        go : Dec (b ≡ a) → getD (set seen a true) b false ≡ (eqb b (get s (idle i)) || elem b (entries B s i))
-        go (yes q) = rw (eq-eqb b (get s (idle i)) (q ∙ e), ← q) (getD-set-same seen b true false (rw (M .sized) l))
-        go (no q) = rw (ne-eqb b (get s (idle i)) (λ z. q (z ∙ sym e))) (getD-set-other seen a b true false q ∙ M .marks b l)
+        go : Dec (b ≡ a) → getD (set seen a true) b false ≡ (eqb b (get s (Idle, i)) || elem b (entries B s i))
+        go (yes q) = rw (eq-eqb b (get s (Idle, i)) (q ∙ e), ← q) (getD-set-same seen b true false (rw (M .sized) l))
+        go (no q) = rw (ne-eqb b (get s (Idle, i)) (λ z. q (z ∙ sym e))) (getD-set-other seen a b true false q ∙ M .marks b l)
 
-    slots-next : (j : ℕ) → j < suc i → get s (idle j) < 256
+    slots-next : (j : ℕ) → j < suc i → get s (Idle, j) < 256
     slots-next j l = go (decLt j i)
       where
-        go : Dec (j < i) → get s (idle j) < 256
+        go : Dec (j < i) → get s (Idle, j) < 256
         go (yes m) = M .slots j m
-        go (no m) = let q : j ≡ i = omega arith in let k = ap (λ (x : ℕ). get s (idle x)) q in omega arith
+        go (no m) = let q : j ≡ i = omega arith in let k = ap (λ (x : ℕ). get s (Idle, x)) q in omega arith
 
     different-next : (not (getD seen a false) && d) ≡ distinct (entries B s (suc i))
     unfolding topFirst distinct

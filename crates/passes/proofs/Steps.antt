@@ -11,7 +11,7 @@ use lib.ListN.{length}
 use lib.Dec.{eqb, ltb}
 use borrow.Author.Tests.{lt-ltb, le-ltb}
 use Rattle.rules.specs.Areas.{has, perPort, Grant}
-use Rattle.rules.specs.Board.{Board, clock, free, deadline, mask}
+use Rattle.rules.specs.Board.{Board, Deadline, Mask, clock, free}
 use Rattle.rules.specs.Indices.{count}
 use Rattle.rules.specs.Questions.{occupied, used}
 use Rattle.rules.specs.Tick.{isDue, withdrawn, withdrawals, returned}
@@ -33,7 +33,7 @@ module _ (B : Board) (L : Laws B) where
   module _ (s : List ℕ) (sized : length s ≡ stateLength) where
     -- A state with other masks has the same slots due.
     due-masked : (f : ℕ → ℕ) (i : ℕ) → i < 256 → isDue B (masked B L f s 256) i ≡ isDue B s i
-    due-masked f i h = rw (get-masked B L f s sized (deadline i) h refl 256 (omega arith), get-masked B L f s sized clock (omega arith) refl 256 (omega arith))
+    due-masked f i h = rw (get-masked B L f s sized (Deadline, i) h refl 256 (omega arith), get-masked B L f s sized clock (omega arith) refl 256 (omega arith))
 
     -- ---- step 4
 
@@ -58,7 +58,7 @@ module _ (B : Board) (L : Laws B) where
           stays e j (yes q) = rw (q, here false e, le-ltb k k (omega arith))
           stays e j (no n) = kept-other k j n
 
-          go : (d : Bool) → isDue B s k ≡ d → cond d (put (masked B L (kept k) s 256) (mask k) 0) (masked B L (kept k) s 256) ≡ masked B L (kept (suc k)) s 256
+          go : (d : Bool) → isDue B s k ≡ d → cond d (put (masked B L (kept k) s 256) (Mask, k) 0) (masked B L (kept k) s 256) ≡ masked B L (kept (suc k)) s 256
           go true e = rw (← here true e) (masked-put B L (kept k) (kept (suc k)) s k (kept-other k) 256 h (omega arith))
           go false e = masked-same B L (kept k) (kept (suc k)) s 256 (λ j l. stays e j (ℕ-discrete j k))
 
@@ -66,12 +66,12 @@ module _ (B : Board) (L : Laws B) where
 
     -- It gives back the slots b, where these are the occupied ones without a port in x.
     module _ (x : List ℕ) (long : length x ≡ stateLength) (b : ℕ → Bool) (room : get x free + count 256 b ≤ 256)
-        (same : (i : ℕ) → i < 256 → (occupied B s i && eqb (get x (mask i)) 0) ≡ b i) where
+        (same : (i : ℕ) → i < 256 → (occupied B s i && eqb (get x (Mask, i)) 0) ≡ b i) where
       returned-back : (k : ℕ) → k ≤ 256 → returned B k s x ≡ givenBack B b x k
       unfolding returned givenBack
       returned-back zero h = refl
       returned-back (suc k) h =
-          let e = givenBack-back B L b x long room k (omega arith) .keeps (mask k) h refl refl in
+          let e = givenBack-back B L b x long room k (omega arith) .keeps (Mask, k) h refl refl in
           rw (returned-back k (omega arith), e, same k h)
 
   -- ---- steps 3 to 5 for the grants g

@@ -6,7 +6,7 @@ use lib.IntN.{pos, negℤ}
 use lib.Signed.{leZ}
 use Rattle.rules.specs.Clock.{offset}
 use Rattle.rules.specs.Areas.{Store, byte, bits, packet, stamp}
-use Rattle.rules.specs.Board.{Board, clock, delay}
+use Rattle.rules.specs.Board.{Board, Delay, clock}
 use Rattle.rules.specs.Tick.{arrival, arrived}
 
 module _ (B : Board) where
@@ -14,7 +14,7 @@ module _ (B : Board) where
 
   -- Question 7 of the packet k: its offset is at least - d.
   abbrev pub inTime : List ℕ → List ℕ → Bool
-  inTime s k = leZ (negℤ (pos (get s (delay (byte k 0))))) (offset (bits c) (stamp c k) (get s clock))
+  inTime s k = leZ (negℤ (pos (get s (Delay, byte k 0)))) (offset (bits c) (stamp c k) (get s clock))
 
   -- What the arrival on port p meets, after those on the ports below p.
   abbrev pub met : Store → ℕ → List ℕ → ℕ → ℕ

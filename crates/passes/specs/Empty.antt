@@ -2,8 +2,8 @@
 use Prim.Native.Nat.{ℕ, _<_, _≤_}
 use mathlib.Core.Path.{_≡_}
 use mathlib.Core.List.{List}
-use Rattle.rules.specs.Board.{Board, mask}
+use Rattle.rules.specs.Board.{Board, Mask}
 
 -- The slots from e on have no port to serve.
 abbrev pub EmptyFrom : Board → List ℕ → ℕ → Type 0
-EmptyFrom B s e = (e ≤ 256) × ((j : ℕ) → e ≤ j → j < 256 → B .get s (mask j) ≡ 0)
+EmptyFrom B s e = (e ≤ 256) × ((j : ℕ) → e ≤ j → j < 256 → B .get s (Mask, j) ≡ 0)

@@ -5,7 +5,7 @@ use mathlib.Core.Bool.{true}
 use mathlib.Core.List.{List}
 use lib.ListN.{getD, set, replicate}
 use Rattle.rules.specs.Areas.{has, Grant, nobody, bestEffort, onTime, early}
-use Rattle.rules.specs.Board.{Board, mask}
+use Rattle.rules.specs.Board.{Board, Mask}
 use Rattle.rules.specs.Tick.{sent}
 
 -- Port p joins the ports that send the slot it is granted.
@@ -25,8 +25,8 @@ module _ (B : Board) where
   abbrev pub Winner : List ℕ → ℕ → Grant ℕ → Type 0
   Winner s p nobody = Unit
   Winner s p bestEffort = Unit
-  Winner s p (onTime i) = (i < 256) × (has (B .get s (mask i)) p ≡ true)
-  Winner s p (early i) = (i < 256) × (has (B .get s (mask i)) p ≡ true)
+  Winner s p (onTime i) = (i < 256) × (has (B .get s (Mask, i)) p ≡ true)
+  Winner s p (early i) = (i < 256) × (has (B .get s (Mask, i)) p ≡ true)
 
   -- Step 3 for the ports below p, where port q has g q.
   unfoldable pub sentBy : (ℕ → Grant ℕ) → ℕ → List ℕ → List ℕ

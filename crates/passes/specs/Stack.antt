@@ -6,15 +6,15 @@ use mathlib.Core.List.{List}
 use lib.ListN.{length, getD}
 use Rattle.rules.specs.Indices.{topFirst}
 use Rattle.rules.specs.Areas.{elem, distinct}
-use Rattle.rules.specs.Board.{Board, idle}
+use Rattle.rules.specs.Board.{Board, Idle}
 
 -- The first n entries of the stack, top first; `stack` is those of the free count.
 abbrev pub entries : Board → List ℕ → ℕ → List ℕ
-entries B s n = topFirst (λ i. B .get s (idle i)) n
+entries B s n = topFirst (λ i. B .get s (Idle, i)) n
 
 -- The marks are of the slots among the first n entries, each of these is a slot, and d says whether they are different.
 pub record Marked (B : Board) (s : List ℕ) (n : ℕ) (seen : List Bool) (d : Bool) : Type 0 where
   pub sized : length seen ≡ 256
   pub marks : (a : ℕ) → a < 256 → getD seen a false ≡ elem a (entries B s n)
-  pub slots : (j : ℕ) → j < n → B .get s (idle j) < 256
+  pub slots : (j : ℕ) → j < n → B .get s (Idle, j) < 256
   pub different : d ≡ distinct (entries B s n)

@@ -10,7 +10,7 @@ use lib.Dec.{leb, eqb}
 use borrow.Author.Tests.{eqb-true, leb-true}
 use Rattle.rules.specs.Account.{NotedTick, Kept, stored}
 use Rattle.rules.specs.Areas.{Store, Reply, numberReply, bits, fits, elem, distinct}
-use Rattle.rules.specs.Board.{Board, clock, horizon, latch, free, idle, mask, outgoing, delay, routes}
+use Rattle.rules.specs.Board.{Board, Horizon, Latch, Idle, Mask, Outgoing, Delay, Routes, clock, free}
 use Rattle.rules.specs.Calls.{Step, Call, control, tick, refusal, refuse, accept, wholeStep, routerAfter, wholeReplies, ByteCall, TrueTimes, Proper}
 use Rattle.rules.specs.Asked.{asked}
 use Rattle.rules.specs.Control.{written}
@@ -81,10 +81,10 @@ module _ (B : Board) (L : Laws B) where
       reads = λ f e v. L .get-fresh t f v ∙ on-settings (freshField t) (shown c (start t)) (sym (cut-pos (bits c) t h)) (λ p l. refl) (λ q l. refl) (λ i l. (refl, refl, refl)) f e v;
     };
     whole = length-replicate {A = ℕ} 5120 0;
-    place = λ i l. L .get-fresh t (mask i) l;
+    place = λ i l. L .get-fresh t (Mask, i) l;
     stack =
-        ap (topFirst (λ i. get (freshState t) (idle i))) (L .get-fresh t free (omega arith))
-        ∙ topFirst-same (λ i. get (freshState t) (idle i)) (λ i. 255 - i) 256 (λ i l. L .get-fresh t (idle i) l)
+        ap (topFirst (λ i. get (freshState t) (Idle, i))) (L .get-fresh t free (omega arith))
+        ∙ topFirst-same (λ i. get (freshState t) (Idle, i)) (λ i. 255 - i) 256 (λ i l. L .get-fresh t (Idle, i) l)
         ∙ top-first;
   }
 
@@ -170,11 +170,11 @@ module _ (B : Board) (L : Laws B) where
       let S = R .settings in
       record {
         clock = S .reads clock refl (omega arith);
-        horizon = λ p l. S .reads (horizon p) refl l;
-        latch = λ q l. S .reads (latch q) refl l;
-        identifier = λ i l. S .reads (outgoing i) refl l;
-        delay = λ i l. S .reads (delay i) refl l;
-        routes = λ i l. S .reads (routes i) refl l;
+        horizon = λ p l. S .reads (Horizon, p) refl l;
+        latch = λ q l. S .reads (Latch, q) refl l;
+        identifier = λ i l. S .reads (Outgoing, i) refl l;
+        delay = λ i l. S .reads (Delay, i) refl l;
+        routes = λ i l. S .reads (Routes, i) refl l;
         place = λ i l. place-shown r i (w .place i) (G .busy i l) (R .place i l);
         free = let e = rel-free B L R in let k = G .kept .all in omega arith;
         stack = R .stack;

@@ -7,7 +7,7 @@ use native.Mathlib.Omega.{arith}
 use lib.ListN.{length}
 use lib.Dec.{ltb, eqb}
 use Rattle.rules.specs.Areas.{value, digits}
-use Rattle.rules.specs.Board.{Field, clock, horizon, latch, free, idle, getAt}
+use Rattle.rules.specs.Board.{Horizon, Latch, Idle, Field, clock, free, getAt}
 use Rattle.rules.specs.Board8.{table8, fresh8, board8}
 use Rattle.rules.specs.Indices.{all, topFirst}
 use Rattle.rules.proofs.BoardLaws.{Laws, freshField, width}
@@ -16,7 +16,7 @@ use Rattle.rules.proofs.TableLaws.{kindOf, each, owned, lawful-table}
 -- Whose byte stands at offset o.
 owner8 : ℕ → Field
 owner8 o =
-    cond (ltb o 1) clock (cond (ltb o 6) (horizon (o - 1)) (cond (ltb o 10) (latch (o - 6)) (cond (ltb o 12) free (cond (ltb o 268) (idle (o - 12))
+    cond (ltb o 1) clock (cond (ltb o 6) (Horizon, o - 1) (cond (ltb o 10) (Latch, o - 6) (cond (ltb o 12) free (cond (ltb o 268) (Idle, o - 12)
     (cond (ltb o 1036) (kindOf (5 + (o - 268) % 3), (o - 268) / 3) (kindOf (8 + (o - 1036) % 3), (o - 1036) / 3))))))
 
 -- Computed tests over all fields.

@@ -13,7 +13,7 @@ use lib.IntN.{sucℤ, _-ℤ_}
 use borrow.Author.Tests.{eq-eqb, ne-eqb}
 use Rattle.rules.specs.Account.{Kept, stored}
 use Rattle.rules.specs.Areas.{bits, half, value, digits, packet, stamp, packed, portsBelow, perPort, answersArea, Grant, nobody, bestEffort, onTime, early, elem, distinct, Store}
-use Rattle.rules.specs.Board.{Board, clock, horizon, latch, free, idle, time, deadline, mask, outgoing, delay, routes}
+use Rattle.rules.specs.Board.{Board, Horizon, Latch, Idle, Time, Deadline, Mask, Outgoing, Delay, Routes, clock, free}
 use Rattle.rules.specs.Clock.{cut, plus, minus, offset}
 use Rattle.rules.specs.Questions.{sound, full}
 use Rattle.rules.specs.Tick.{arrived, served, withdrawn, returned}
@@ -56,10 +56,10 @@ module _ (B : Board) (L : Laws B) where
   open Board B using (clockBytes as c, stateLength, get, put)
 
   -- A packet held has a port left.
-  pub mask-held : (r : Store) (i : ℕ) (v : Option Held) → SlotShows B L r i v → ((h : Held) → v ≡ some h → Busy h) → eqb (get (r .state) (mask i)) 0 ≡ not (isHeld v)
+  pub mask-held : (r : Store) (i : ℕ) (v : Option Held) → SlotShows B L r i v → ((h : Held) → v ≡ some h → Busy h) → eqb (get (r .state) (Mask, i)) 0 ≡ not (isHeld v)
   unfolding isHeld
-  mask-held r i none h b = eq-eqb (get (r .state) (mask i)) 0 h
-  mask-held r i (some x) h b = ne-eqb (get (r .state) (mask i)) 0 (λ e. let n = b x refl in let q = h .left in omega arith)
+  mask-held r i none h b = eq-eqb (get (r .state) (Mask, i)) 0 h
+  mask-held r i (some x) h b = ne-eqb (get (r .state) (Mask, i)) 0 (λ e. let n = b x refl in let q = h .left in omega arith)
 
   module _ {r : Store} {w : Router} (R : Rel B L r w) (G : Good c w) where
     abbrev s : List ℕ
@@ -71,7 +71,7 @@ module _ (B : Board) (L : Laws B) where
     -- ---- the store is sound
 
     -- A slot with a mask shows a packet: its readings are its times cut, and these are in range.
-    stored-sound : (i : ℕ) → i < 256 → get s (mask i) ≢ 0 → StoredSound B r i
+    stored-sound : (i : ℕ) → i < 256 → get s (Mask, i) ≢ 0 → StoredSound B r i
     stored-sound i l n = go (w .place i) refl (R .place i l)
       where
         go : (v : Option Held) → w .place i ≡ v → SlotShows B L r i v → StoredSound B r i
@@ -95,12 +95,12 @@ module _ (B : Board) (L : Laws B) where
     pub rel-sound : sound B r ≡ true
     rel-sound = sound-iff B r .1 (record {
       settings = record {
-        delays = λ i l. omega (arith, S .reads (delay i) refl l, G .settings .entry i l .delay);
-        masks = λ i l. omega (arith, S .reads (routes i) refl l, G .settings .entry i l .mask);
-        horizons = λ p l. omega (arith, S .reads (horizon p) refl l, G .settings .horizon p l);
-        register-1 = omega (arith, S .reads (latch 1) refl (omega arith), G .settings .latch .delay);
-        register-2 = omega (arith, S .reads (latch 2) refl (omega arith), G .settings .latch .mask);
-        register-4 = omega (arith, S .reads (latch 3) refl (omega arith), G .settings .ports);
+        delays = λ i l. omega (arith, S .reads (Delay, i) refl l, G .settings .entry i l .delay);
+        masks = λ i l. omega (arith, S .reads (Routes, i) refl l, G .settings .entry i l .mask);
+        horizons = λ p l. omega (arith, S .reads (Horizon, p) refl l, G .settings .horizon p l);
+        register-1 = omega (arith, S .reads (Latch, 1) refl (omega arith), G .settings .latch .delay);
+        register-2 = omega (arith, S .reads (Latch, 2) refl (omega arith), G .settings .latch .mask);
+        register-4 = omega (arith, S .reads (Latch, 3) refl (omega arith), G .settings .ports);
       };
       stack = lists-sound B s (rel-room B L R (G .kept)) (ap distinct (R .stack) ∙ G .kept .once) (λ i l. ap (elem i) (R .stack) ∙ G .kept .idle i l ∙ sym (mask-held r i (w .place i) (R .place i l) (G .busy i l)));
       stored = stored-sound;
@@ -134,7 +134,7 @@ module _ (B : Board) (L : Laws B) where
       R₂ = served-rel B L G call I R₁ 5 (omega arith)
 
       -- A slot had a port to serve after the arrivals just where its place holds a packet.
-      was : (i : ℕ) → i < 256 → eqb (get (r₁ .state) (mask i)) 0 ≡ not (isHeld (w₂ .place i))
+      was : (i : ℕ) → i < 256 → eqb (get (r₁ .state) (Mask, i)) 0 ≡ not (isHeld (w₂ .place i))
       was i l = mask-held r₁ i (after c w call 5 .place i) (R₁ .place i l) (arrivals-busy c w call G I 5 i l) ∙ ap not (sym (served-held c w call 5 i))
 
       K₂ : Kept (w₂ .place) (w₂ .free)

@@ -13,7 +13,7 @@ use lib.Signed.{leZ}
 use borrow.Author.Tests.{eq-eqb, ne-eqb}
 use Rattle.rules.specs.Account.{Kept}
 use Rattle.rules.specs.Areas.{byte, bits, packet, stamp, payload, packed, has, Store}
-use Rattle.rules.specs.Board.{Board, clock, free, idle, time, deadline, mask, outgoing, delay, routes}
+use Rattle.rules.specs.Board.{Board, Idle, Time, Deadline, Mask, Outgoing, Delay, Routes, clock, free}
 use Rattle.rules.specs.Clock.{cut, plus, offset}
 use Rattle.rules.specs.Indices.{topFirst}
 use Rattle.rules.specs.Questions.{stack}
@@ -51,14 +51,14 @@ module _ (B : Board) (L : Laws B) where
     hi = I .identifier p hp
 
     -- The entry as the router has it.
-    routes-same : get s (routes i) ≡ w .entry i .mask
-    routes-same = R .settings .reads (routes i) refl hi
+    routes-same : get s (Routes, i) ≡ w .entry i .mask
+    routes-same = R .settings .reads (Routes, i) refl hi
 
-    delay-same : get s (delay i) ≡ w .entry i .delay
-    delay-same = R .settings .reads (delay i) refl hi
+    delay-same : get s (Delay, i) ≡ w .entry i .delay
+    delay-same = R .settings .reads (Delay, i) refl hi
 
     -- An offset of at least - d is a deadline that is not before the clock.
-    in-time-same : has (call .arriving) p ≡ true → leZ (negℤ (pos (get s (delay i)))) (offset (bits c) (stamp c k) (get s clock)) ≡ leZ (w .clock) (call .times p +ℤ pos (w .entry i .delay))
+    in-time-same : has (call .arriving) p ≡ true → leZ (negℤ (pos (get s (Delay, i)))) (offset (bits c) (stamp c k) (get s clock)) ≡ leZ (w .clock) (call .times p +ℤ pos (w .entry i .delay))
     in-time-same h =
         ap₂ (λ (o : ℤ) (d : ℕ). leZ (negℤ (pos d)) o) (ap₂ (offset (bits c)) (I .header p hp h) (R .settings .reads clock refl (omega arith)) ∙ offset-is c (call .times p) (w .clock) (I .from p hp h) (I .soon p hp h)) delay-same
         ∙ diff-in-time (w .entry i .delay) (call .times p) (w .clock)
@@ -75,13 +75,13 @@ module _ (B : Board) (L : Laws B) where
     -- ---- an accepted packet
 
     abbrev D : ℕ
-    D = plus (bits c) (stamp c k) (get s (delay i))
+    D = plus (bits c) (stamp c k) (get s (Delay, i))
 
     abbrev bytes : List ℕ
-    bytes = packed c (get s (outgoing i)) D (payload c k)
+    bytes = packed c (get s (Outgoing, i)) D (payload c k)
 
     abbrev stored-at : ℕ → ℕ → Store
-    stored-at n j = record { state = put (put (put (put s free n) (time j) (stamp c k)) (deadline j) D) (mask j) (get s (routes i)); memory = sets (r .memory) (20 * j) bytes }
+    stored-at n j = record { state = put (put (put (put s free n) (Time, j) (stamp c k)) (Deadline, j) D) (Mask, j) (get s (Routes, i)); memory = sets (r .memory) (20 * j) bytes }
 
     module _ (here : has (call .arriving) p ≡ true) (j : ℕ) (l : List ℕ) (el : w .free ≡ j ∷ l) where
       abbrev N : ℕ
@@ -94,9 +94,9 @@ module _ (B : Board) (L : Laws B) where
       count = rel-free B L R ∙ ap length el
 
       -- The top of the stack is the first free place.
-      top : get s (idle N) ∷ topFirst (λ i. get s (idle i)) N ≡ j ∷ l
+      top : get s (Idle, N) ∷ topFirst (λ i. get s (Idle, i)) N ≡ j ∷ l
       unfolding stack topFirst
-      top = sym (ap (topFirst (λ i. get s (idle i))) count) ∙ R .stack ∙ el
+      top = sym (ap (topFirst (λ i. get s (Idle, i))) count) ∙ R .stack ∙ el
 
       K′ : Kept (w .place) (j ∷ l)
       K′ = subst (Kept (w .place)) el K
@@ -105,8 +105,8 @@ module _ (B : Board) (L : Laws B) where
       hj = first-place K′
 
       -- Four stores, read back.
-      stores : Reads B L none-out (r′ .state) (λ f. cond (sameField (mask j) f) (get s (routes i)) (cond (sameField (deadline j) f) D (cond (sameField (time j) f) (stamp c k) (cond (sameField free f) N (get s f)))))
-      stores = reads-put B L (reads-put B L (reads-put B L (reads-put B L (reads-self B L s (R .settings .sized)) free N (omega arith)) (time j) (stamp c k) hj) (deadline j) D hj) (mask j) (get s (routes i)) hj
+      stores : Reads B L none-out (r′ .state) (λ f. cond (sameField (Mask, j) f) (get s (Routes, i)) (cond (sameField (Deadline, j) f) D (cond (sameField (Time, j) f) (stamp c k) (cond (sameField free f) N (get s f)))))
+      stores = reads-put B L (reads-put B L (reads-put B L (reads-put B L (reads-self B L s (R .settings .sized)) free N (omega arith)) (Time, j) (stamp c k) hj) (Deadline, j) D hj) (Mask, j) (get s (Routes, i)) hj
 
       -- The sum that turns over is the deadline, cut.
       deadline-same : D ≡ cut (bits c) (call .times p +ℤ pos (w .entry i .delay))
@@ -114,10 +114,10 @@ module _ (B : Board) (L : Laws B) where
 
       bytes-same : bytes ≡ packetBytes c (made c w p k (call .times p))
       unfolding packetBytes
-      bytes-same = ap₂ (λ (o d : ℕ). packed c o d (payload c k)) (R .settings .reads (outgoing i) refl hi) deadline-same
+      bytes-same = ap₂ (λ (o d : ℕ). packed c o d (payload c k)) (R .settings .reads (Outgoing, i) refl hi) deadline-same
 
       bytes-length : length bytes ≡ 20
-      bytes-length = length-packed c (get s (outgoing i)) D (payload c k) (length-payload c k (length-packet (call .arrivals) p (let e = I .whole in omega arith))) (L .few-bytes)
+      bytes-length = length-packed c (get s (Outgoing, i)) D (payload c k) (length-payload c k (length-packet (call .arrivals) p (let e = I .whole in omega arith))) (L .few-bytes)
 
       abbrev new : Held
       new = fresh-held (made c w p k (call .times p))
@@ -127,9 +127,9 @@ module _ (B : Board) (L : Laws B) where
       new-here =
           let self = eq-eqb j j refl in
           record {
-            time = stores .reads (time j) refl hj ∙ rw self (I .header p hp here);
-            deadline = stores .reads (deadline j) refl hj ∙ rw self deadline-same;
-            left = stores .reads (mask j) refl hj ∙ rw self routes-same;
+            time = stores .reads (Time, j) refl hj ∙ rw self (I .header p hp here);
+            deadline = stores .reads (Deadline, j) refl hj ∙ rw self deadline-same;
+            left = stores .reads (Mask, j) refl hj ∙ rw self routes-same;
             bytes = packet-same (r .memory) bytes j (R .whole) hj bytes-length ∙ bytes-same;
           }
 
@@ -138,9 +138,9 @@ module _ (B : Board) (L : Laws B) where
       others q hq n =
           let no = ne-eqb j q (λ e. n (sym e)) in
           record {
-            time = stores .reads (time q) refl hq ∙ rw no;
-            deadline = stores .reads (deadline q) refl hq ∙ rw no;
-            mask = stores .reads (mask q) refl hq ∙ rw no;
+            time = stores .reads (Time, q) refl hq ∙ rw no;
+            deadline = stores .reads (Deadline, q) refl hq ∙ rw no;
+            mask = stores .reads (Mask, q) refl hq ∙ rw no;
             bytes = packet-other (r .memory) bytes j q n bytes-length;
           }
 
@@ -148,13 +148,13 @@ module _ (B : Board) (L : Laws B) where
       stored-rel : Rel B L r′ (withPlaces w (Whole.put (w .place) j (some new)) l)
       unfolding stack
       stored-rel = record {
-        settings = settings-places B L (Whole.put (w .place) j (some new)) l (reads-off B L (reads-off B L (reads-off B L (reads-off B L (R .settings) free N (omega arith) refl) (time j) (stamp c k) hj refl) (deadline j) D hj refl) (mask j) (get s (routes i)) hj refl);
+        settings = settings-places B L (Whole.put (w .place) j (some new)) l (reads-off B L (reads-off B L (reads-off B L (reads-off B L (R .settings) free N (omega arith) refl) (Time, j) (stamp c k) hj refl) (Deadline, j) D hj refl) (Mask, j) (get s (Routes, i)) hj refl);
         whole = length-sets (r .memory) (20 * j) bytes ∙ R .whole;
         place = shows-put B L R j (some new) new-here others;
         stack =
             let room = kept-room K′ in
-            ap (topFirst (λ i. get (r′ .state) (idle i))) (stores .reads free refl (omega arith))
-            ∙ topFirst-same (λ i. get (r′ .state) (idle i)) (λ i. get s (idle i)) N (λ q m. stores .reads (idle q) refl (omega arith)) ∙ cons-rest top;
+            ap (topFirst (λ i. get (r′ .state) (Idle, i))) (stores .reads free refl (omega arith))
+            ∙ topFirst-same (λ i. get (r′ .state) (Idle, i)) (λ i. get s (Idle, i)) N (λ q m. stores .reads (Idle, q) refl (omega arith)) ∙ cons-rest top;
       }
 
       -- The top idle address is j.
@@ -162,7 +162,7 @@ module _ (B : Board) (L : Laws B) where
       unfolding Tick.placed
       stored-is =
           let e : get s free - 1 ≡ N = omega (arith, count) in
-          ap₂ stored-at e (ap (λ (n : ℕ). get s (idle n)) e ∙ cons-first top)
+          ap₂ stored-at e (ap (λ (n : ℕ). get s (Idle, n)) e ∙ cons-first top)
 
     -- Any arrival keeps the relation.
     arrival-rel : Rel B L (Tick.admitted B r (call .arriving) p k) (admitted (meets c call w p) w)

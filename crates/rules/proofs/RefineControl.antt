@@ -8,7 +8,7 @@ use lib.Dec.{eqb}
 use borrow.Author.Tests.{ltb-true, lt-ltb}
 use Rattle.rules.specs.Account.{Kept}
 use Rattle.rules.specs.Areas.{has, fits, Store}
-use Rattle.rules.specs.Board.{Board, Kind, Horizon, Field, latch, outgoing, delay, routes}
+use Rattle.rules.specs.Board.{Board, Kind, Horizon, Latch, Outgoing, Delay, Routes, Field}
 use Rattle.rules.specs.Control.{commitEntry, commitHorizon, written}
 use Rattle.rules.specs.Whole.{Entry, Router}
 use Rattle.rules.specs.Whole as Whole
@@ -29,17 +29,17 @@ module _ (B : Board) (L : Laws B) where
     met = reads-self B L s (R .settings .sized)
 
     -- What a register holds.
-    register-same : (q : ℕ) → q < 4 → get s (latch q) ≡ w .latch q
-    register-same q l = R .settings .reads (latch q) refl l
+    register-same : (q : ℕ) → q < 4 → get s (Latch, q) ≡ w .latch q
+    register-same q l = R .settings .reads (Latch, q) refl l
 
     -- ---- registers 0, 1, 2 and 4
 
     -- One store.
-    latch-rel : (q v : ℕ) → q < 4 → Rel B L (with-state B L r (put s (latch q) v)) (record { clock = w .clock; horizon = w .horizon; latch = Whole.put (w .latch) q v; entry = w .entry; place = w .place; free = w .free })
+    latch-rel : (q v : ℕ) → q < 4 → Rel B L (with-state B L r (put s (Latch, q) v)) (record { clock = w .clock; horizon = w .horizon; latch = Whole.put (w .latch) q v; entry = w .entry; place = w .place; free = w .free })
     unfolding Whole.put
     latch-rel q v l = rel-settings B L R K
-        (reads-as B L (reads-put B L (R .settings) (latch q) v l) (on-settings _ _ refl (λ p h. refl) (λ j h. refl) (λ i h. (refl, refl, refl))))
-        (reads-off B L met (latch q) v l refl) refl refl
+        (reads-as B L (reads-put B L (R .settings) (Latch, q) v l) (on-settings _ _ refl (λ p h. refl) (λ j h. refl) (λ i h. (refl, refl, refl))))
+        (reads-off B L met (Latch, q) v l refl) refl refl
 
     -- ---- register 3
 
@@ -57,12 +57,12 @@ module _ (B : Board) (L : Laws B) where
       entry-rel : Rel B L (with-state B L r (commitEntry B v s)) (record { clock = w .clock; horizon = w .horizon; latch = w .latch; entry = Whole.put (w .entry) v (latched w); place = w .place; free = w .free })
       entry-rel =
           rel-settings B L R K
-          (reads-as B L (reads-put B L (reads-put B L (reads-put B L (R .settings) (outgoing v) (get s (latch 0)) hv) (delay v) (get s (latch 1)) hv) (routes v) (get s (latch 2)) hv) (on-settings _ _ refl (λ p h. refl) (λ j h. refl) (λ i h. (
+          (reads-as B L (reads-put B L (reads-put B L (reads-put B L (R .settings) (Outgoing, v) (get s (Latch, 0)) hv) (Delay, v) (get s (Latch, 1)) hv) (Routes, v) (get s (Latch, 2)) hv) (on-settings _ _ refl (λ p h. refl) (λ j h. refl) (λ i h. (
             part-put (λ e. e .identifier) i (register-same 0 (omega arith)),
             part-put (λ e. e .delay) i (register-same 1 (omega arith)),
             part-put (λ e. e .mask) i (register-same 2 (omega arith)),
           ))))
-          (reads-off B L (reads-off B L (reads-off B L met (outgoing v) (get s (latch 0)) hv refl) (delay v) (get s (latch 1)) hv refl) (routes v) (get s (latch 2)) hv refl) refl refl
+          (reads-off B L (reads-off B L (reads-off B L met (Outgoing, v) (get s (Latch, 0)) hv refl) (Delay, v) (get s (Latch, 1)) hv refl) (Routes, v) (get s (Latch, 2)) hv refl) refl refl
 
     -- ---- register 5
 
@@ -74,9 +74,9 @@ module _ (B : Board) (L : Laws B) where
       committed {σ = σ} S (suc n) l = marked-next B L Horizon (has m) h σ n (committed S n (omega arith)) (omega arith)
 
     -- The ports of register 4 as the router has them.
-    horizon-rel : (v : ℕ) → Rel B L (with-state B L r (commitHorizon B 5 (get s (latch 3)) v s)) (record { clock = w .clock; horizon = λ p. cond (has (w .latch 3) p) v (w .horizon p); latch = w .latch; entry = w .entry; place = w .place; free = w .free })
+    horizon-rel : (v : ℕ) → Rel B L (with-state B L r (commitHorizon B 5 (get s (Latch, 3)) v s)) (record { clock = w .clock; horizon = λ p. cond (has (w .latch 3) p) v (w .horizon p); latch = w .latch; entry = w .entry; place = w .place; free = w .free })
     horizon-rel v =
-        let m = get s (latch 3) in
+        let m = get s (Latch, 3) in
         rel-settings B L R K
         (reads-as B L (committed m v (R .settings) 5 (omega arith)) (on-settings _ _ refl (λ p l. rw (lt-ltb p 5 l, register-same 3 (omega arith))) (λ j l. refl) (λ i l. (refl, refl, refl))))
         (reads-apart B L Horizon _ v refl (committed m v met 5 (omega arith))) refl refl

@@ -11,7 +11,7 @@ use lib.IntN.{ℤ}
 use borrow.Author.Tests.{eq-eqb, ne-eqb, eqb-true, lt-ltb, le-ltb}
 use Rattle.rules.specs.Account.{stored, Kept}
 use Rattle.rules.specs.Areas.{half, packet, has, Store}
-use Rattle.rules.specs.Board.{Board, Kind, Free, Idle, Mask, Field, clock, free, idle, time, deadline, mask}
+use Rattle.rules.specs.Board.{Board, Kind, Free, Idle, Time, Deadline, Mask, Field, clock, free}
 use Rattle.rules.specs.Demand3.{HeldShown}
 use Rattle.rules.specs.Indices.{count, counted, topFirst}
 use Rattle.rules.specs.Questions.{stack}
@@ -64,31 +64,31 @@ module _ (B : Board) (L : Laws B) where
   withdrawn-reads s z zero l = marked-none B L Mask (isDueNow B s) 0 (get s) (reads-self B L s z)
   withdrawn-reads s z (suc n) l =
       let M = withdrawn-reads s z n (omega arith) in
-      rw (M .reads (deadline n) refl (omega arith), M .reads clock refl (omega arith)) (marked-next B L Mask (isDueNow B s) 0 (get s) n M (omega arith))
+      rw (M .reads (Deadline, n) refl (omega arith), M .reads clock refl (omega arith)) (marked-next B L Mask (isDueNow B s) 0 (get s) n M (omega arith))
 
   -- ---- a slot goes back on the stack
 
   module _ {t : Kind → Bool} {s : List ℕ} {σ : Field → ℕ} (R : Reads B L t s σ) (i : ℕ) (room : get s free < 256) where
     -- No other field changes.
     push-reads : t Free ≡ true → t Idle ≡ true → Reads B L t (giveBack B i s) σ
-    push-reads h₃ h₄ = reads-off B L (reads-off B L R (idle (get s free)) i room h₄) free (get s free + 1) (omega arith) h₃
+    push-reads h₃ h₄ = reads-off B L (reads-off B L R (Idle, get s free) i room h₄) free (get s free + 1) (omega arith) h₃
 
     -- The entry stored is the top, and those below stay.
     push-stack : stack B (giveBack B i s) ≡ i ∷ stack B s
     unfolding stack topFirst
     push-stack =
         let n = get s free in
-        let P : Reads B L none-out (giveBack B i s) (λ f. cond (sameField free f) (n + 1) (cond (sameField (idle n) f) i (get s f))) = reads-put B L (reads-put B L (reads-self B L s (R .sized)) (idle n) i room) free (n + 1) (omega arith) in
+        let P : Reads B L none-out (giveBack B i s) (λ f. cond (sameField free f) (n + 1) (cond (sameField (Idle, n) f) i (get s f))) = reads-put B L (reads-put B L (reads-self B L s (R .sized)) (Idle, n) i room) free (n + 1) (omega arith) in
         let e : get (giveBack B i s) free ≡ suc n = P .reads free refl (omega arith) ∙ omega arith in
-        ap (topFirst (λ j. get (giveBack B i s) (idle j))) e
-        ∙ ap₂ (λ (x : ℕ) (l : List ℕ). x ∷ l) (P .reads (idle n) refl room ∙ rw (eq-eqb n n refl))
-        (topFirst-same (λ j. get (giveBack B i s) (idle j)) (λ j. get s (idle j)) n (λ j h. P .reads (idle j) refl (omega arith) ∙ rw (ne-eqb n j (omega arith))))
+        ap (topFirst (λ j. get (giveBack B i s) (Idle, j))) e
+        ∙ ap₂ (λ (x : ℕ) (l : List ℕ). x ∷ l) (P .reads (Idle, n) refl room ∙ rw (eq-eqb n n refl))
+        (topFirst-same (λ j. get (giveBack B i s) (Idle, j)) (λ j. get s (Idle, j)) n (λ j h. P .reads (Idle, j) refl (omega arith) ∙ rw (ne-eqb n j (omega arith))))
 
   -- ---- both steps
 
   -- `before` is a state whose slots had a port to serve just where the places hold a packet.
   module _ {r : Store} {w : Router} (R : Rel B L r w) (K : Kept (w .place) (w .free)) (F : AllHeld (HeldInWindow c (w .clock) (half c)) (w .place))
-      (before : List ℕ) (was : (i : ℕ) → i < 256 → eqb (get before (mask i)) 0 ≡ not (isHeld (w .place i))) where
+      (before : List ℕ) (was : (i : ℕ) → i < 256 → eqb (get before (Mask, i)) 0 ≡ not (isHeld (w .place i))) where
     abbrev t : ℤ
     t = w .clock
 
@@ -106,14 +106,14 @@ module _ (B : Board) (L : Laws B) where
     M = withdrawn-reads s (R .settings .sized) 256 (omega arith)
 
     -- A slot that is due has no port left, any other keeps its ports.
-    mask-remains : (i : ℕ) → i < 256 → get s₃ (mask i) ≡ remains t (w .place i)
-    mask-remains i l = M .reads (mask i) refl l ∙ rw (lt-ltb i 256 l) (go (w .place i) refl (R .place i l))
+    mask-remains : (i : ℕ) → i < 256 → get s₃ (Mask, i) ≡ remains t (w .place i)
+    mask-remains i l = M .reads (Mask, i) refl l ∙ rw (lt-ltb i 256 l) (go (w .place i) refl (R .place i l))
       where
         same-arms : (b : Bool) (n : ℕ) → cond b n n ≡ n
         same-arms true n = refl
         same-arms false n = refl
 
-        go : (v : Option Held) → w .place i ≡ v → SlotShows B L r i v → cond (isDueNow B s i) 0 (get s (mask i)) ≡ remains t v
+        go : (v : Option Held) → w .place i ≡ v → SlotShows B L r i v → cond (isDueNow B s i) 0 (get s (Mask, i)) ≡ remains t v
         go none e h = rw h (same-arms (isDueNow B s i) 0)
         go (some h) e H = ap₂ (λ (b : Bool) (m : ℕ). cond b 0 m) (due-here i l h e H) (H .left)
 
@@ -146,8 +146,8 @@ module _ (B : Board) (L : Laws B) where
         here : e n .place n ≡ v
         here = emptied-at t n w n ∙ rw (le-ltb n n (omega arith))
 
-        tests : (not (eqb (get before (mask n)) 0) && eqb (get s′ (mask n)) 0) ≡ leaves t v
-        tests = rw (was n l, P .slots .reads (mask n) refl l, mask-remains n l) (returns-is t v)
+        tests : (not (eqb (get before (Mask, n)) 0) && eqb (get s′ (Mask, n)) 0) ≡ leaves t v
+        tests = rw (was n l, P .slots .reads (Mask, n) refl l, mask-remains n l) (returns-is t v)
 
         free-is : e (suc n) .free ≡ cond (leaves t v) (n ∷ e n .free) (e n .free)
         free-is = rw here
@@ -175,7 +175,7 @@ module _ (B : Board) (L : Laws B) where
     backs zero l = record {
       settings = reads-through B L (reads-apart B L Mask _ 0 refl (reads-less B L M)) (R .settings);
       slots = reads-self B L s₃ (M .sized);
-      stacked = stack-same B L s s₃ (rel-room B L R K) (M .reads free refl (omega arith)) (λ i m. M .reads (idle i) refl m) ∙ R .stack;
+      stacked = stack-same B L s s₃ (rel-room B L R K) (M .reads free refl (omega arith)) (λ i m. M .reads (Idle, i) refl m) ∙ R .stack;
     }
     backs (suc n) l = back-step n (omega arith) (backs n (omega arith))
 
@@ -189,8 +189,8 @@ module _ (B : Board) (L : Laws B) where
         O : Reads B L stacks (back 256) (get s₃)
         O = backs 256 (omega arith) .slots
 
-        mask-is : {v : Option Held} → w .place i ≡ v → get (back 256) (mask i) ≡ remains t v
-        mask-is e = O .reads (mask i) refl l ∙ mask-remains i l ∙ ap (remains t) e
+        mask-is : {v : Option Held} → w .place i ≡ v → get (back 256) (Mask, i) ≡ remains t v
+        mask-is e = O .reads (Mask, i) refl l ∙ mask-remains i l ∙ ap (remains t) e
 
         go : (v : Option Held) → w .place i ≡ v → SlotShows B L r i v → SlotShows B L (with-state B L r (back 256)) i (remaining t v)
         go none e h = mask-is e
@@ -199,7 +199,7 @@ module _ (B : Board) (L : Laws B) where
             at : (a b : Bool) → isDue t (h .packet) ≡ a → eqb (h .left) 0 ≡ b → SlotShows B L (with-state B L r (back 256)) i (cond (a || b) none (some h))
             at true b p q = mask-is e ∙ rw p
             at false true p q = mask-is e ∙ rw p (eqb-true (h .left) 0 q)
-            at false false p q = record { time = O .reads (time i) refl l ∙ M .reads (time i) refl l ∙ H .time; deadline = O .reads (deadline i) refl l ∙ M .reads (deadline i) refl l ∙ H .deadline; left = mask-is e ∙ rw p; bytes = H .bytes }
+            at false false p q = record { time = O .reads (Time, i) refl l ∙ M .reads (Time, i) refl l ∙ H .time; deadline = O .reads (Deadline, i) refl l ∙ M .reads (Deadline, i) refl l ∙ H .deadline; left = mask-is e ∙ rw p; bytes = H .bytes }
 
     -- Steps 4 and 5 keep the relation.
     pub ended-rel : Rel B L (with-state B L r (back 256)) (e 256)
@@ -216,7 +216,7 @@ module _ (B : Board) (L : Laws B) where
 
     module _ (p : ℕ) (hp : p < 5) where
       -- By cases of the place.
-      one-due : (i : ℕ) → i < 256 → (v : Option Held) → w .place i ≡ v → SlotShows B L r i v → counted (has (get s (mask i)) p && isDueNow B s i) ≡ length (due t (toServe v p))
+      one-due : (i : ℕ) → i < 256 → (v : Option Held) → w .place i ≡ v → SlotShows B L r i v → counted (has (get s (Mask, i)) p && isDueNow B s i) ≡ length (due t (toServe v p))
       unfolding due toServe counted
       one-due i l none e h = rw (h, has-zero p hp)
       one-due i l (some h) e H = rw (H .left, due-here i l h e H) (go (has (h .left) p) (isDue t (h .packet)) refl)
@@ -227,7 +227,7 @@ module _ (B : Board) (L : Laws B) where
           go false b q = refl
 
       -- As many are counted as are withdrawn, from the slots below n.
-      count-due : (n : ℕ) → n ≤ 256 → count n (λ i. has (get s (mask i)) p && isDueNow B s i) ≡ length (Whole.withdrawn t (w .place) p n)
+      count-due : (n : ℕ) → n ≤ 256 → count n (λ i. has (get s (Mask, i)) p && isDueNow B s i) ≡ length (Whole.withdrawn t (w .place) p n)
       unfolding count Whole.withdrawn
       count-due zero l = refl
       count-due (suc n) l = ap₂ (λ (a b : ℕ). a + b) (count-due n (omega arith)) (one-due n (omega arith) (w .place n) refl (R .place n (omega arith))) ∙ sym (length-append (Whole.withdrawn t (w .place) p n) (due t (toServe (w .place n) p)))

@@ -11,7 +11,7 @@ use lib.Signed.{leZ, ltZ}
 use borrow.Author.Tests.{eq-eqb, ne-eqb}
 use Rattle.rules.specs.Account.{Kept}
 use Rattle.rules.specs.Areas.{bits, half, packet, has, without, Store, Grant, nobody, bestEffort, onTime, early, grantCode}
-use Rattle.rules.specs.Board.{Board, clock, horizon, free, idle, time, deadline, mask}
+use Rattle.rules.specs.Board.{Board, Horizon, Idle, Time, Deadline, Mask, clock, free}
 use Rattle.rules.specs.Clock.{cut, minus, offset}
 use Rattle.rules.specs.Demand3.{HeldShown}
 use Rattle.rules.specs.Indices.{least}
@@ -88,7 +88,7 @@ module _ (B : Board) (L : Laws B) where
     slot-early i l h e H =
         ap (ltZ (pos 0)) (ap₂ (offset (bits c)) (H .time) clock-same) ∙ read-early c t (h .packet) (F i l h e .window)
 
-    slot-key : (i : ℕ) → i < 256 → (h : Held) → w .place i ≡ some h → HeldShown B r i h → (e : Bool) → ltZ t (h .packet .time) ≡ e → IsKey e (minus (bits c) (cond e (get s (time i)) (get s (deadline i))) (get s clock)) (h .packet)
+    slot-key : (i : ℕ) → i < 256 → (h : Held) → w .place i ≡ some h → HeldShown B r i h → (e : Bool) → ltZ t (h .packet .time) ≡ e → IsKey e (minus (bits c) (cond e (get s (Time, i)) (get s (Deadline, i))) (get s clock)) (h .packet)
     slot-key i l h q H e z = rw (H .time, H .deadline, clock-same) (read-key c t (h .packet) (F i l h q .window) e z)
 
     -- So the candidates of a sort are the slots of its packets, with keys in one order.
@@ -97,7 +97,7 @@ module _ (B : Board) (L : Laws B) where
     sort-keys e i l = go (w .place i) refl (R .place i l)
       where
         n : Bool → ℕ
-        n e = minus (bits c) (cond e (get s (time i)) (get s (deadline i))) (get s clock)
+        n e = minus (bits c) (cond e (get s (Time, i)) (get s (Deadline, i))) (get s clock)
 
         at : (x : Packet) (a d e : Bool) → ltZ t (x .time) ≡ d → ((e : Bool) → ltZ t (x .time) ≡ e → IsKey e (n e) x)
             → Keys ltb (by (keyOf e) ltZ) (IsKey e) (key-order e) (sorted ltb e (cond a (some (record { early = d; key = n d })) none)) (filter (ofSort e) (cond a (some x) none))
@@ -138,39 +138,39 @@ module _ (B : Board) (L : Laws B) where
     grant-same b =
         let o : Bool → Option (ℕ × ℕ) = λ e. least ltb (λ i. sorted ltb e (candidate B s p i)) 256 in
         let o′ : Bool → Option (ℕ × Packet) = λ e. least (by (keyOf e) ltZ) (λ i. filter (ofSort e) (toServe (w .place i) p)) 256 in
-        ap₂ (λ v n. Tick.granted v (has b p) n) (least-sorts ltb (candidate B s p) 256) (R .settings .reads (horizon p) refl hp)
+        ap₂ (λ v n. Tick.granted v (has b p) n) (least-sorts ltb (candidate B s p) 256) (R .settings .reads (Horizon, p) refl hp)
         ∙ granted-same (w .horizon p) (o false) (o′ false) (leasts false) (has b p) (o true) (o′ true) (leasts true)
 
     -- ---- a port is served
 
     module _ (i : ℕ) (hi : i < 256) (K : Kept (w .place) (w .free)) where
       abbrev m : ℕ
-      m = without (get s (mask i)) p
+      m = without (get s (Mask, i)) p
 
       abbrev r′ : Store
-      r′ = with-state B L r (put s (mask i) m)
+      r′ = with-state B L r (put s (Mask, i) m)
 
       -- One store, read back.
-      stores : Reads B L none-out (put s (mask i) m) (λ f. cond (sameField (mask i) f) m (get s f))
-      stores = reads-put B L (reads-self B L s (R .settings .sized)) (mask i) m hi
+      stores : Reads B L none-out (put s (Mask, i) m) (λ f. cond (sameField (Mask, i) f) m (get s f))
+      stores = reads-put B L (reads-self B L s (R .settings .sized)) (Mask, i) m hi
 
-      stored : get (put s (mask i) m) (mask i) ≡ m
-      stored = stores .reads (mask i) refl hi ∙ rw (eq-eqb i i refl)
+      stored : get (put s (Mask, i) m) (Mask, i) ≡ m
+      stored = stores .reads (Mask, i) refl hi ∙ rw (eq-eqb i i refl)
 
       -- Slot i shows the packet less the port.
       lose-here : (v : Option Held) → SlotShows B L r i v → SlotShows B L r′ i (lose p v)
       unfolding lose
       lose-here none e = stored ∙ ap (λ (m : ℕ). without m p) e ∙ without-zero p hp
-      lose-here (some h) H = record { time = stores .reads (time i) refl hi ∙ H .time; deadline = stores .reads (deadline i) refl hi ∙ H .deadline; left = stored ∙ ap (λ (m : ℕ). without m p) (H .left); bytes = H .bytes }
+      lose-here (some h) H = record { time = stores .reads (Time, i) refl hi ∙ H .time; deadline = stores .reads (Deadline, i) refl hi ∙ H .deadline; left = stored ∙ ap (λ (m : ℕ). without m p) (H .left); bytes = H .bytes }
 
       -- Slot i alone changes, and no setting.
       lose-rel : Rel B L r′ (withPlaces w (Whole.put (w .place) i (lose p (w .place i))) (w .free))
       lose-rel = record {
-        settings = settings-places B L (Whole.put (w .place) i (lose p (w .place i))) (w .free) (reads-off B L (R .settings) (mask i) m hi refl);
+        settings = settings-places B L (Whole.put (w .place) i (lose p (w .place i))) (w .free) (reads-off B L (R .settings) (Mask, i) m hi refl);
         whole = R .whole;
         place = shows-put B L R i (lose p (w .place i)) (lose-here (w .place i) (R .place i hi)) (λ q hq n.
-            record { time = stores .reads (time q) refl hq; deadline = stores .reads (deadline q) refl hq; mask = stores .reads (mask q) refl hq ∙ rw (ne-eqb i q (λ e. n (sym e))); bytes = refl });
-        stack = stack-same B L s (r′ .state) (rel-room B L R K) (stores .reads free refl (omega arith)) (λ j l. stores .reads (idle j) refl l) ∙ R .stack;
+            record { time = stores .reads (Time, q) refl hq; deadline = stores .reads (Deadline, q) refl hq; mask = stores .reads (Mask, q) refl hq ∙ rw (ne-eqb i q (λ e. n (sym e))); bytes = refl });
+        stack = stack-same B L s (r′ .state) (rel-room B L R K) (stores .reads free refl (omega arith)) (λ j l. stores .reads (Idle, j) refl l) ∙ R .stack;
       }
 
     -- By cases of the grant.

@@ -10,7 +10,7 @@ use native.Mathlib.Omega.{arith}
 use lib.ListN.{length}
 use Rattle.rules.specs.Account.{Kept}
 use Rattle.rules.specs.Areas.{bits, packet, Store}
-use Rattle.rules.specs.Board.{Board, Kind, Clock, Horizon, Latch, Free, Idle, Time, Deadline, Mask, Outgoing, Delay, Routes, Field, clock, horizon, latch, free, idle, time, deadline, mask, outgoing, delay, routes}
+use Rattle.rules.specs.Board.{Board, Kind, Clock, Horizon, Latch, Free, Idle, Time, Deadline, Mask, Outgoing, Delay, Routes, Field, clock, free}
 use Rattle.rules.specs.Clock.{cut}
 use Rattle.rules.specs.Demand3.{HeldShown}
 use Rattle.rules.specs.Questions.{stack}
@@ -53,8 +53,8 @@ shown c w (Delay, i) = w .entry i .delay
 shown c w (Routes, i) = w .entry i .mask
 
 -- Two readings agree on the settings where they do so kind by kind.
-pub on-settings : (σ τ : Field → ℕ) → σ clock ≡ τ clock → ((p : ℕ) → p < 5 → σ (horizon p) ≡ τ (horizon p)) → ((q : ℕ) → q < 4 → σ (latch q) ≡ τ (latch q))
-    → ((i : ℕ) → i < 256 → (σ (outgoing i) ≡ τ (outgoing i)) × (σ (delay i) ≡ τ (delay i)) × (σ (routes i) ≡ τ (routes i))) → (f : Field) → inner (f .0) ≡ false → Valid f → σ f ≡ τ f
+pub on-settings : (σ τ : Field → ℕ) → σ clock ≡ τ clock → ((p : ℕ) → p < 5 → σ (Horizon, p) ≡ τ (Horizon, p)) → ((q : ℕ) → q < 4 → σ (Latch, q) ≡ τ (Latch, q))
+    → ((i : ℕ) → i < 256 → (σ (Outgoing, i) ≡ τ (Outgoing, i)) × (σ (Delay, i) ≡ τ (Delay, i)) × (σ (Routes, i) ≡ τ (Routes, i))) → (f : Field) → inner (f .0) ≡ false → Valid f → σ f ≡ τ f
 on-settings σ τ t h q n (Clock, zero) e v = t
 on-settings σ τ t h q n (Clock, suc i) e v = absurd (omega arith)
 on-settings σ τ t h q n (Horizon, p) e v = h p v
@@ -87,14 +87,14 @@ module _ (B : Board) (L : Laws B) where
 
   -- A slot shows a place; it may hold a packet with no port left.
   abbrev pub SlotShows : Store → ℕ → Option Held → Type 0
-  SlotShows r i none = get (r .state) (mask i) ≡ 0
+  SlotShows r i none = get (r .state) (Mask, i) ≡ 0
   SlotShows r i (some x) = HeldShown B r i x
 
   -- Slot i and its memory are in r′ as in r.
   pub record Untouched (r r′ : Store) (i : ℕ) : Type 0 where
-    pub time : get (r′ .state) (time i) ≡ get (r .state) (time i)
-    pub deadline : get (r′ .state) (deadline i) ≡ get (r .state) (deadline i)
-    pub mask : get (r′ .state) (mask i) ≡ get (r .state) (mask i)
+    pub time : get (r′ .state) (Time, i) ≡ get (r .state) (Time, i)
+    pub deadline : get (r′ .state) (Deadline, i) ≡ get (r .state) (Deadline, i)
+    pub mask : get (r′ .state) (Mask, i) ≡ get (r .state) (Mask, i)
     pub bytes : packet (r′ .memory) i ≡ packet (r .memory) i
 
   -- Such a slot shows what it did.
@@ -138,7 +138,7 @@ module _ (B : Board) (L : Laws B) where
       settings = S;
       whole = R .whole;
       place = λ i l.
-          shows-same (w′ .place i) (record { time = O .reads (time i) refl l; deadline = O .reads (deadline i) refl l; mask = O .reads (mask i) refl l; bytes = refl })
+          shows-same (w′ .place i) (record { time = O .reads (Time, i) refl l; deadline = O .reads (Deadline, i) refl l; mask = O .reads (Mask, i) refl l; bytes = refl })
           (subst (λ f. SlotShows r i (f i)) (sym ep) (R .place i l));
-      stack = stack-same B L (r .state) s′ (rel-room K) (O .reads free refl (omega arith)) (λ i l. O .reads (idle i) refl l) ∙ R .stack ∙ sym ef;
+      stack = stack-same B L (r .state) s′ (rel-room K) (O .reads free refl (omega arith)) (λ i l. O .reads (Idle, i) refl l) ∙ R .stack ∙ sym ef;
     }

@@ -10,7 +10,7 @@ use lib.ListN.{length}
 use lib.Dec.{eqb}
 use borrow.Author.Tests.{ne-eqb}
 use Rattle.rules.specs.Areas.{Store, byte, bits, stamp, elem, distinct}
-use Rattle.rules.specs.Board.{Board, free, idle, time, deadline, mask, delay, routes}
+use Rattle.rules.specs.Board.{Board, Idle, Time, Deadline, Mask, Delay, Routes, free}
 use Rattle.rules.specs.Clock.{plus}
 use Rattle.rules.specs.Indices.{count, counted}
 use Rattle.rules.specs.Questions.{stack, stackSound, occupied, used}
@@ -72,22 +72,22 @@ module _ (B : Board) (L : Laws B) where
   open Board B using (clockBytes as c, stateLength, get, put)
 
   -- In a sound state they make 256, where the stack's entries are slots.
-  pub sound-used : (s : List ℕ) → stackSound B s ≡ true → ((j : ℕ) → j < get s free → get s (idle j) < 256) → used B s ≡ 256
+  pub sound-used : (s : List ℕ) → stackSound B s ≡ true → ((j : ℕ) → j < get s free → get s (Idle, j) < 256) → used B s ≡ 256
   unfolding stack
   sound-used s e small =
       let l = stack B s in
       let (d, m) = stack-lists B s e in
-      let q = count-same (λ i. elem i l) (λ i. eqb (get s (mask i)) 0) 256 m in
-      let n = count-not (λ i. eqb (get s (mask i)) 0) 256 in
-      let k = count-elem l d (λ x h. within x (at-elem (λ i. get s (idle i)) x (get s free) h)) in
-      let z = length-topFirst (λ i. get s (idle i)) (get s free) in
+      let q = count-same (λ i. elem i l) (λ i. eqb (get s (Mask, i)) 0) 256 m in
+      let n = count-not (λ i. eqb (get s (Mask, i)) 0) 256 in
+      let k = count-elem l d (λ x h. within x (at-elem (λ i. get s (Idle, i)) x (get s free) h)) in
+      let z = length-topFirst (λ i. get s (Idle, i)) (get s free) in
       omega arith
     where
-      within : (x : ℕ) → (j : ℕ) × (j < get s free) × (get s (idle j) ≡ x) → x < 256
+      within : (x : ℕ) → (j : ℕ) × (j < get s free) × (get s (Idle, j) ≡ x) → x < 256
       within x (j, h, e) = let a = small j h in omega arith
 
   -- An accepted packet takes one from the free count, and gives one slot a packet.
-  pub placed-used : (r : Store) (k : List ℕ) → length (r .state) ≡ stateLength → 0 < get (r .state) free → get (r .state) (idle (get (r .state) free - 1)) < 256 → used B (placed B r k .state) ≤ used B (r .state)
+  pub placed-used : (r : Store) (k : List ℕ) → length (r .state) ≡ stateLength → 0 < get (r .state) free → get (r .state) (Idle, get (r .state) free - 1) < 256 → used B (placed B r k .state) ≤ used B (r .state)
   unfolding placed
   placed-used r k sized some hi =
       let more = count-one-more (occupied B (placed B r k .state)) (occupied B s) i 256 (λ j l ne. ap (λ (m : ℕ). not (eqb m 0)) (mask-other j l ne)) in
@@ -100,17 +100,17 @@ module _ (B : Board) (L : Laws B) where
       n = get s free - 1
 
       i : ℕ
-      i = get s (idle n)
+      i = get s (Idle, n)
 
       d : ℕ
-      d = plus (bits c) (stamp c k) (get s (delay (byte k 0)))
+      d = plus (bits c) (stamp c k) (get s (Delay, byte k 0))
 
       m : ℕ
-      m = get s (routes (byte k 0))
+      m = get s (Routes, byte k 0)
 
       -- Four stores, read back.
-      stores : Reads B L none-out (placed B r k .state) (λ f. cond (sameField (mask i) f) m (cond (sameField (deadline i) f) d (cond (sameField (time i) f) (stamp c k) (cond (sameField free f) n (get s f)))))
-      stores = reads-put B L (reads-put B L (reads-put B L (reads-put B L (reads-self B L s sized) free n (omega arith)) (time i) (stamp c k) hi) (deadline i) d hi) (mask i) m hi
+      stores : Reads B L none-out (placed B r k .state) (λ f. cond (sameField (Mask, i) f) m (cond (sameField (Deadline, i) f) d (cond (sameField (Time, i) f) (stamp c k) (cond (sameField free f) n (get s f)))))
+      stores = reads-put B L (reads-put B L (reads-put B L (reads-put B L (reads-self B L s sized) free n (omega arith)) (Time, i) (stamp c k) hi) (Deadline, i) d hi) (Mask, i) m hi
 
-      mask-other : (j : ℕ) → j < 256 → j ≢ i → get (placed B r k .state) (mask j) ≡ get s (mask j)
-      mask-other j l ne = stores .reads (mask j) refl l ∙ rw (ne-eqb i j (λ e. ne (sym e)))
+      mask-other : (j : ℕ) → j < 256 → j ≢ i → get (placed B r k .state) (Mask, j) ≡ get s (Mask, j)
+      mask-other j l ne = stores .reads (Mask, j) refl l ∙ rw (ne-eqb i j (λ e. ne (sym e)))

@@ -13,7 +13,7 @@ use borrow.Author.Tests.{eq-eqb, ne-eqb, eqb-true, lt-ltb, ltb-true, le-leb, leb
 use Rattle.rules.specs.Clock.{minus, offset}
 use Rattle.rules.specs.Indices.{all, topFirst}
 use Rattle.rules.specs.Areas.{Store, bits, half, packet, stamp, elem, distinct}
-use Rattle.rules.specs.Board.{Board, clock, horizon, latch, free, idle, time, deadline, mask, delay, routes}
+use Rattle.rules.specs.Board.{Board, Horizon, Latch, Idle, Time, Deadline, Mask, Delay, Routes, clock, free}
 use Rattle.rules.specs.Questions.{connectionSound, horizonSound, latchSound, settingsSound, stack, listed, stackSound, slotSound, slotsSound, sound}
 use Rattle.rules.proofs.Booleans.{is-true, true-is, and-left, and-right, and-both, or-right, not-false, beq-eq, eq-beq}
 use Rattle.rules.proofs.IndexLaws.{all-at, all-true}
@@ -26,43 +26,43 @@ module _ (B : Board) where
   -- d, horizons and registers in range, and the connection table's masks.
   pub record SettingsSound (s : List ℕ) : Type 0 where
     -- The delay and the mask of each connection.
-    pub delays : (i : ℕ) → i < 256 → get s (delay i) < half c
-    pub masks : (i : ℕ) → i < 256 → get s (routes i) ≤ 31
+    pub delays : (i : ℕ) → i < 256 → get s (Delay, i) < half c
+    pub masks : (i : ℕ) → i < 256 → get s (Routes, i) ≤ 31
     -- Each port's horizon.
-    pub horizons : (p : ℕ) → p < 5 → get s (horizon p) < half c
+    pub horizons : (p : ℕ) → p < 5 → get s (Horizon, p) < half c
     -- Registers 1, 2 and 4, the last at place 3 of the latch.
-    pub register-1 : get s (latch 1) < half c
-    pub register-2 : get s (latch 2) ≤ 31
-    pub register-4 : get s (latch 3) ≤ 31
+    pub register-1 : get s (Latch, 1) < half c
+    pub register-2 : get s (Latch, 2) ≤ 31
+    pub register-4 : get s (Latch, 3) ≤ 31
 
   -- The idle-address stack with the free count n.
   pub record StackSound (s : List ℕ) : Type 0 where
     -- n is at most 256.
     pub count : get s free ≤ 256
     -- The first n entries are different.
-    pub different : (i j : ℕ) → i < j → j < get s free → get s (idle i) ≢ get s (idle j)
+    pub different : (i j : ℕ) → i < j → j < get s free → get s (Idle, i) ≢ get s (Idle, j)
     -- They are exactly the slots with mask 0: a slot among them has it, and a slot that has it is among them.
-    pub idle-empty : (i k : ℕ) → i < 256 → k < get s free → get s (idle k) ≡ i → get s (mask i) ≡ 0
-    pub empty-idle : (i : ℕ) → i < 256 → get s (mask i) ≡ 0 → (k : ℕ) × (k < get s free) × (get s (idle k) ≡ i)
+    pub idle-empty : (i k : ℕ) → i < 256 → k < get s free → get s (Idle, k) ≡ i → get s (Mask, i) ≡ 0
+    pub empty-idle : (i : ℕ) → i < 256 → get s (Mask, i) ≡ 0 → (k : ℕ) × (k < get s free) × (get s (Idle, k) ≡ i)
 
   -- The delay of the packet in slot i, deadline - time, and the offset of its time.
   abbrev pub delayOf : List ℕ → ℕ → ℕ
-  delayOf s i = minus (bits c) (get s (deadline i)) (get s (time i))
+  delayOf s i = minus (bits c) (get s (Deadline, i)) (get s (Time, i))
 
   abbrev pub offsetOf : List ℕ → ℕ → ℤ
-  offsetOf s i = offset (bits c) (get s (time i)) (get s clock)
+  offsetOf s i = offset (bits c) (get s (Time, i)) (get s clock)
 
   -- A packet stored in slot i.
   pub record StoredSound (r : Store) (i : ℕ) : Type 0 where
     -- The mask has five bits.
-    pub ports : get (r .state) (mask i) ≤ 31
+    pub ports : get (r .state) (Mask, i) ≤ 31
     -- Its delay is in range.
     pub in-range : delayOf (r .state) i < half c
     -- The offset is at least - d, and at most 126 on a clock of one byte.
     pub not-late : negℤ (pos (delayOf (r .state) i)) ≤ℤ offsetOf (r .state) i
     pub not-far : offsetOf (r .state) i ≤ℤ pos (half c - 2)
     -- The header in memory has the deadline.
-    pub header : stamp c (packet (r .memory) i) ≡ get (r .state) (deadline i)
+    pub header : stamp c (packet (r .memory) i) ≡ get (r .state) (Deadline, i)
 
   -- A sound state, with the memory.
   pub record Sound (r : Store) : Type 0 where
@@ -71,7 +71,7 @@ module _ (B : Board) where
     -- The stack has the empty slots, each once.
     pub stack : StackSound (r .state)
     -- Every slot with a mask other than 0 holds a sound packet.
-    pub stored : (i : ℕ) → i < 256 → get (r .state) (mask i) ≢ 0 → StoredSound r i
+    pub stored : (i : ℕ) → i < 256 → get (r .state) (Mask, i) ≢ 0 → StoredSound r i
 
 -- ---- the list f (n - 1), .., f 0
 
@@ -146,8 +146,8 @@ module _ (B : Board) where
   settings-iff s =
       let parts = and-iff (all 256 (connectionSound B s)) (all 5 (horizonSound B s) && latchSound B s) in
       let others = and-iff (all 5 (horizonSound B s)) (latchSound B s) in
-      let registers = and-iff (ltb (get s (latch 1)) (half c)) (leb (get s (latch 2)) 31 && leb (get s (latch 3)) 31) in
-      let two = and-iff (leb (get s (latch 2)) 31) (leb (get s (latch 3)) 31) in (
+      let registers = and-iff (ltb (get s (Latch, 1)) (half c)) (leb (get s (Latch, 2)) 31 && leb (get s (Latch, 3)) 31) in
+      let two = and-iff (leb (get s (Latch, 2)) 31) (leb (get s (Latch, 3)) 31) in (
         λ e.
             let (connections, e₁) = parts .0 e in
             let (horizons, e₂) = others .0 e₁ in
@@ -170,24 +170,24 @@ module _ (B : Board) where
             ),
       )
     where
-      connection : (i : ℕ) → (connectionSound B s i ≡ true) ↔ ((get s (delay i) < half c) × (get s (routes i) ≤ 31))
+      connection : (i : ℕ) → (connectionSound B s i ≡ true) ↔ ((get s (Delay, i) < half c) × (get s (Routes, i) ≤ 31))
       connection i =
-          let parts = and-iff (ltb (get s (delay i)) (half c)) (leb (get s (routes i)) 31) in
+          let parts = and-iff (ltb (get s (Delay, i)) (half c)) (leb (get s (Routes, i)) 31) in
           (λ e. let (a, b) = parts .0 e in (ltb-true _ _ a, leb-true _ _ b), λ p. parts .1 (lt-ltb _ _ (p .0), le-leb _ _ (p .1)))
 
   -- The stack of a sound state has no address twice, and has exactly the empty slots.
-  pub stack-lists : (s : List ℕ) → stackSound B s ≡ true → (distinct (stack B s) ≡ true) × ((i : ℕ) → i < 256 → elem i (stack B s) ≡ eqb (get s (mask i)) 0)
+  pub stack-lists : (s : List ℕ) → stackSound B s ≡ true → (distinct (stack B s) ≡ true) × ((i : ℕ) → i < 256 → elem i (stack B s) ≡ eqb (get s (Mask, i)) 0)
   unfolding stackSound
   stack-lists s e =
       let (once, slots) = and-iff (distinct (stack B s)) (all 256 (listed B s)) .0 (and-right (leb (get s free) 256) (distinct (stack B s) && all 256 (listed B s)) e) in
-      (once, λ i h. beq-eq (elem i (stack B s)) (eqb (get s (mask i)) 0) (all-at (listed B s) 256 i slots h))
+      (once, λ i h. beq-eq (elem i (stack B s)) (eqb (get s (Mask, i)) 0) (all-at (listed B s) 256 i slots h))
 
   -- The stack is the list of its first n entries.
-  pub lists-sound : (s : List ℕ) → get s free ≤ 256 → distinct (stack B s) ≡ true → ((i : ℕ) → i < 256 → elem i (stack B s) ≡ eqb (get s (mask i)) 0) → StackSound B s
+  pub lists-sound : (s : List ℕ) → get s free ≤ 256 → distinct (stack B s) ≡ true → ((i : ℕ) → i < 256 → elem i (stack B s) ≡ eqb (get s (Mask, i)) 0) → StackSound B s
   unfolding stack
   lists-sound s count once same =
       let n = get s free in
-      let entry : ℕ → ℕ = λ k. get s (idle k) in
+      let entry : ℕ → ℕ = λ k. get s (Idle, k) in
       record {
         count = count;
         different = different-at entry n once;
@@ -202,38 +202,38 @@ module _ (B : Board) where
       let parts = and-iff (leb (get s free) 256) (distinct (stack B s) && all 256 (listed B s)) in
       let others = and-iff (distinct (stack B s)) (all 256 (listed B s)) in (
         λ e. let (once, same) = stack-lists s e in lists-sound s (leb-true _ _ (parts .0 e .0)) once same,
-        λ p. parts .1 (le-leb _ _ (p .count), others .1 (at-different entry n (p .different), all-true (listed B s) 256 (λ i h. eq-beq (elem i (stack B s)) (eqb (get s (mask i)) 0) (same p i h)))),
+        λ p. parts .1 (le-leb _ _ (p .count), others .1 (at-different entry n (p .different), all-true (listed B s) 256 (λ i h. eq-beq (elem i (stack B s)) (eqb (get s (Mask, i)) 0) (same p i h)))),
       )
     where
       n : ℕ
       n = get s free
 
       entry : ℕ → ℕ
-      entry k = get s (idle k)
+      entry k = get s (Idle, k)
 
       -- By whether the slot is empty.
-      same : StackSound B s → (i : ℕ) → i < 256 → elem i (topFirst entry n) ≡ eqb (get s (mask i)) 0
-      same p i h = go (ℕ-discrete (get s (mask i)) 0) (elem i (topFirst entry n)) refl
+      same : StackSound B s → (i : ℕ) → i < 256 → elem i (topFirst entry n) ≡ eqb (get s (Mask, i)) 0
+      same p i h = go (ℕ-discrete (get s (Mask, i)) 0) (elem i (topFirst entry n)) refl
         where
-          go : Dec (get s (mask i) ≡ 0) → (t : Bool) → elem i (topFirst entry n) ≡ t → elem i (topFirst entry n) ≡ eqb (get s (mask i)) 0
-          go (yes q) t e = let (k, l, m) = p .empty-idle i h q in elem-at entry i n k l m ∙ sym (eq-eqb (get s (mask i)) 0 q)
+          go : Dec (get s (Mask, i) ≡ 0) → (t : Bool) → elem i (topFirst entry n) ≡ t → elem i (topFirst entry n) ≡ eqb (get s (Mask, i)) 0
+          go (yes q) t e = let (k, l, m) = p .empty-idle i h q in elem-at entry i n k l m ∙ sym (eq-eqb (get s (Mask, i)) 0 q)
           go (no q) true e = let (k, l, m) = at-elem entry i n e in absurd (q (p .idle-empty i k h l m))
-          go (no q) false e = e ∙ sym (ne-eqb (get s (mask i)) 0 q)
+          go (no q) false e = e ∙ sym (ne-eqb (get s (Mask, i)) 0 q)
 
   -- Each test of a slot is a rule for the packet in it.
-  slot-iff : (r : Store) (i : ℕ) → (slotSound B r i ≡ true) ↔ (get (r .state) (mask i) ≢ 0 → StoredSound B r i)
+  slot-iff : (r : Store) (i : ℕ) → (slotSound B r i ≡ true) ↔ (get (r .state) (Mask, i) ≢ 0 → StoredSound B r i)
   unfolding slotSound
   slot-iff r i =
       let s = r .state in
-      let fits = leb (get s (mask i)) 31 && ltb (delayOf B s i) (half c) in
+      let fits = leb (get s (Mask, i)) 31 && ltb (delayOf B s i) (half c) in
       let late = leZ (negℤ (pos (delayOf B s i))) (offsetOf B s i) in
       let far = leZ (offsetOf B s i) (pos (half c - 2)) in
-      let same = eqb (stamp c (packet (r .memory) i)) (get s (deadline i)) in
-      let held = held-iff (get s (mask i)) (fits && late && far && same) in
+      let same = eqb (stamp c (packet (r .memory) i)) (get s (Deadline, i)) in
+      let held = held-iff (get s (Mask, i)) (fits && late && far && same) in
       let t₁ = and-iff (fits && late && far) same in
       let t₂ = and-iff (fits && late) far in
       let t₃ = and-iff fits late in
-      let t₄ = and-iff (leb (get s (mask i)) 31) (ltb (delayOf B s i) (half c)) in (
+      let t₄ = and-iff (leb (get s (Mask, i)) 31) (ltb (delayOf B s i) (half c)) in (
         λ e n.
             let (e₁, header) = t₁ .0 (held .0 e n) in
             let (e₂, not-far) = t₂ .0 e₁ in

@@ -8,7 +8,7 @@ use native.Mathlib.Omega.{arith}
 use lib.ListN.{length}
 use lib.Dec.{ltb, eqb}
 use borrow.Author.Tests.{eq-eqb, ne-eqb, lt-ltb, le-ltb}
-use Rattle.rules.specs.Board.{Board, Kind, Field, free, idle}
+use Rattle.rules.specs.Board.{Board, Kind, Idle, Field, free}
 use Rattle.rules.specs.Indices.{topFirst}
 use Rattle.rules.specs.Questions.{stack}
 use Rattle.rules.proofs.BoardLaws.{Laws, sameKind, sameField, Valid}
@@ -109,12 +109,12 @@ module _ (B : Board) (L : Laws B) where
   -- ---- the idle stack
 
   -- The stack stays where the count and the entries do.
-  pub stack-same : (s s′ : List ℕ) → get s free ≤ 256 → get s′ free ≡ get s free → ((i : ℕ) → i < 256 → get s′ (idle i) ≡ get s (idle i)) → stack B s′ ≡ stack B s
+  pub stack-same : (s s′ : List ℕ) → get s free ≤ 256 → get s′ free ≡ get s free → ((i : ℕ) → i < 256 → get s′ (Idle, i) ≡ get s (Idle, i)) → stack B s′ ≡ stack B s
   unfolding stack
   stack-same s s′ l e h =
-      ap (topFirst (λ i. get s′ (idle i))) e ∙ topFirst-same (λ i. get s′ (idle i)) (λ i. get s (idle i)) (get s free) (λ i m. h i (omega arith))
+      ap (topFirst (λ i. get s′ (Idle, i))) e ∙ topFirst-same (λ i. get s′ (Idle, i)) (λ i. get s (Idle, i)) (get s free) (λ i m. h i (omega arith))
 
   -- The free count is the height of the stack.
   pub length-stack : (s : List ℕ) → length (stack B s) ≡ get s free
   unfolding stack
-  length-stack s = length-topFirst (λ i. get s (idle i)) (get s free)
+  length-stack s = length-topFirst (λ i. get s (Idle, i)) (get s free)

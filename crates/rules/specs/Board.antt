@@ -17,35 +17,8 @@ Field = Kind × ℕ
 abbrev pub clock : Field
 clock = (Clock, 0)
 
-abbrev pub horizon : ℕ → Field
-horizon p = (Horizon, p)
-
-abbrev pub latch : ℕ → Field
-latch r = (Latch, r)
-
 abbrev pub free : Field
 free = (Free, 0)
-
-abbrev pub idle : ℕ → Field
-idle i = (Idle, i)
-
-abbrev pub time : ℕ → Field
-time i = (Time, i)
-
-abbrev pub deadline : ℕ → Field
-deadline i = (Deadline, i)
-
-abbrev pub mask : ℕ → Field
-mask i = (Mask, i)
-
-abbrev pub outgoing : ℕ → Field
-outgoing i = (Outgoing, i)
-
-abbrev pub delay : ℕ → Field
-delay i = (Delay, i)
-
-abbrev pub routes : ℕ → Field
-routes i = (Routes, i)
 
 pub record Board : Type 0 where
   -- The bytes of a clock reading, and of the state.

@@ -7,8 +7,7 @@ use mathlib.Core.Option.{Option, none, some}
 use lib.ListN.{length, take}
 use Rattle.rules.specs.Clock.{cut}
 use Rattle.rules.specs.Areas.{Store, Reply, bits, packet}
-use Rattle.rules.specs.Board as L
-use Rattle.rules.specs.Board.{Board}
+use Rattle.rules.specs.Board.{Board, Horizon, Latch, Time, Deadline, Mask, Outgoing, Delay, Routes, clock, free}
 use Rattle.rules.specs.Board8.{board8}
 use Rattle.rules.specs.Questions as Entry
 use Rattle.rules.specs.Questions.{fresh, stack, sound}
@@ -49,25 +48,25 @@ module _ (B : Board) where
 
   -- State and memory show the places.
   pub record HeldShown (r : Store) (i : ℕ) (x : Held) : Type 0 where
-    pub time : get (r .state) (L.time i) ≡ cut (bits c) (x .packet .time)
-    pub deadline : get (r .state) (L.deadline i) ≡ cut (bits c) (x .packet .deadline)
-    pub left : get (r .state) (L.mask i) ≡ x .left
+    pub time : get (r .state) (Time, i) ≡ cut (bits c) (x .packet .time)
+    pub deadline : get (r .state) (Deadline, i) ≡ cut (bits c) (x .packet .deadline)
+    pub left : get (r .state) (Mask, i) ≡ x .left
     pub bytes : packet (r .memory) i ≡ packetBytes c (x .packet)
 
   -- An empty place is a slot with mask 0.
   abbrev pub PlaceShown : Store → ℕ → Option Held → Type 0
-  PlaceShown r i none = get (r .state) (L.mask i) ≡ 0
+  PlaceShown r i none = get (r .state) (Mask, i) ≡ 0
   PlaceShown r i (some x) = HeldShown r i x × (0 < x .left)
 
   pub record Shown (r : Store) (w : Router) : Type 0 where
-    pub clock : get (r .state) L.clock ≡ cut (bits c) (w .clock)
-    pub horizon : (p : ℕ) → p < 5 → get (r .state) (L.horizon p) ≡ w .horizon p
-    pub latch : (q : ℕ) → q < 4 → get (r .state) (L.latch q) ≡ w .latch q
-    pub identifier : (i : ℕ) → i < 256 → get (r .state) (L.outgoing i) ≡ w .entry i .identifier
-    pub delay : (i : ℕ) → i < 256 → get (r .state) (L.delay i) ≡ w .entry i .delay
-    pub routes : (i : ℕ) → i < 256 → get (r .state) (L.routes i) ≡ w .entry i .mask
+    pub clock : get (r .state) clock ≡ cut (bits c) (w .clock)
+    pub horizon : (p : ℕ) → p < 5 → get (r .state) (Horizon, p) ≡ w .horizon p
+    pub latch : (q : ℕ) → q < 4 → get (r .state) (Latch, q) ≡ w .latch q
+    pub identifier : (i : ℕ) → i < 256 → get (r .state) (Outgoing, i) ≡ w .entry i .identifier
+    pub delay : (i : ℕ) → i < 256 → get (r .state) (Delay, i) ≡ w .entry i .delay
+    pub routes : (i : ℕ) → i < 256 → get (r .state) (Routes, i) ≡ w .entry i .mask
     pub place : (i : ℕ) → i < 256 → PlaceShown r i (w .place i)
-    pub free : get (r .state) L.free + stored (w .place) ≡ 256
+    pub free : get (r .state) free + stored (w .place) ≡ 256
     pub stack : stack B (r .state) ≡ w .free
 
   -- After the calls ks on a router fresh at the clock reading t.

@@ -9,7 +9,7 @@ use lib.Signed.{leZ}
 use Rattle.rules.specs.Clock.{minus, offset}
 use Rattle.rules.specs.Indices.{all, count, topFirst}
 use Rattle.rules.specs.Areas.{Store, numberReply, memoryLength, areasFull, bits, half, packet, stamp, elem, distinct}
-use Rattle.rules.specs.Board.{Board, clock, horizon, latch, free, idle, time, deadline, mask, delay, routes}
+use Rattle.rules.specs.Board.{Board, Horizon, Latch, Idle, Time, Deadline, Mask, Delay, Routes, clock, free}
 use Rattle.rules.specs.Asked.{asked, controlQuestions, tickQuestions}
 use Rattle.rules.specs.Control.{written}
 use Rattle.rules.specs.Tick.{Outcome, ticked}
@@ -23,31 +23,31 @@ module _ (B : Board) where
 
   -- 2: is the state sound? d, horizons and registers are in range, and the table's masks at most 31.
   abbrev pub connectionSound : List ℕ → ℕ → Bool
-  connectionSound s i = ltb (get s (delay i)) (half c) && leb (get s (routes i)) 31
+  connectionSound s i = ltb (get s (Delay, i)) (half c) && leb (get s (Routes, i)) 31
 
   abbrev pub horizonSound : List ℕ → ℕ → Bool
-  horizonSound s p = ltb (get s (horizon p)) (half c)
+  horizonSound s p = ltb (get s (Horizon, p)) (half c)
 
   abbrev pub latchSound : List ℕ → Bool
-  latchSound s = ltb (get s (latch 1)) (half c) && (leb (get s (latch 2)) 31 && leb (get s (latch 3)) 31)
+  latchSound s = ltb (get s (Latch, 1)) (half c) && (leb (get s (Latch, 2)) 31 && leb (get s (Latch, 3)) 31)
 
   unfoldable pub settingsSound : List ℕ → Bool
   settingsSound s = all 256 (connectionSound s) && (all 5 (horizonSound s) && latchSound s)
 
   -- The first n entries of the stack, top first.
   unfoldable pub stack : List ℕ → List ℕ
-  stack s = topFirst (λ i. get s (idle i)) (get s free)
+  stack s = topFirst (λ i. get s (Idle, i)) (get s free)
 
   -- They are exactly the slots with mask 0: slot i is among them just if it is one.
   abbrev pub listed : List ℕ → ℕ → Bool
-  listed s i = Bool·beq (elem i (stack s)) (eqb (get s (mask i)) 0)
+  listed s i = Bool·beq (elem i (stack s)) (eqb (get s (Mask, i)) 0)
 
   unfoldable pub stackSound : List ℕ → Bool
   stackSound s = leb (get s free) 256 && (distinct (stack s) && all 256 (listed s))
 
   -- Slot i holds a packet; the free count and the packets stored.
   abbrev pub occupied : List ℕ → ℕ → Bool
-  occupied s i = not (eqb (get s (mask i)) 0)
+  occupied s i = not (eqb (get s (Mask, i)) 0)
 
   abbrev pub used : List ℕ → ℕ
   used s = get s free + count 256 (occupied s)
@@ -56,10 +56,10 @@ module _ (B : Board) where
   unfoldable pub slotSound : Store → ℕ → Bool
   slotSound r i =
       let s = r .state in
-      let d = minus (bits c) (get s (deadline i)) (get s (time i)) in
-      let o = offset (bits c) (get s (time i)) (get s clock) in
-      eqb (get s (mask i)) 0
-      || (leb (get s (mask i)) 31 && ltb d (half c) && leZ (negℤ (pos d)) o && leZ o (pos (half c - 2)) && eqb (stamp c (packet (r .memory) i)) (get s (deadline i)))
+      let d = minus (bits c) (get s (Deadline, i)) (get s (Time, i)) in
+      let o = offset (bits c) (get s (Time, i)) (get s clock) in
+      eqb (get s (Mask, i)) 0
+      || (leb (get s (Mask, i)) 31 && ltb d (half c) && leZ (negℤ (pos d)) o && leZ o (pos (half c - 2)) && eqb (stamp c (packet (r .memory) i)) (get s (Deadline, i)))
 
   unfoldable pub slotsSound : Store → Bool
   slotsSound r = all 256 (slotSound r)

@@ -12,7 +12,7 @@ use Rattle.rules.specs.Order.{Key, comparator}
 use Rattle.rules.specs.Indices.{least, count}
 use Rattle.rules.specs.Areas.{Store, Reply, packetLength, byte, bits, packet, stamp, payload, packed, has, without, perPort, Grant, nobody, bestEffort, onTime, early, grantCode, noPacket, answersArea}
 use Rattle.rules.specs.Asked.{asked, arrivalQuestions, arrivalAnswer}
-use Rattle.rules.specs.Board.{Board, clock, horizon, free, idle, time, deadline, mask, outgoing, delay, routes}
+use Rattle.rules.specs.Board.{Board, Horizon, Idle, Time, Deadline, Mask, Outgoing, Delay, Routes, clock, free}
 
 -- From the winner and its key, best-effort's wait and the horizon.
 unfoldable pub granted : Option (ℕ × Key ℕ) → Bool → ℕ → Grant ℕ
@@ -38,7 +38,7 @@ module _ (B : Board) where
   unfoldable pub arrivalRefusal : List ℕ → List ℕ → ℕ
   arrivalRefusal s k =
       let i = byte k 0 in
-      asked (arrivalQuestions (not (eqb (get s (routes i)) 0)) (leZ (negℤ (pos (get s (delay i)))) (offset (bits c) (stamp c k) (get s clock))) (not (eqb (get s free) 0)))
+      asked (arrivalQuestions (not (eqb (get s (Routes, i)) 0)) (leZ (negℤ (pos (get s (Delay, i)))) (offset (bits c) (stamp c k) (get s clock))) (not (eqb (get s free) 0)))
 
   unfoldable pub arrival : List ℕ → ℕ → ℕ → List ℕ → ℕ
   arrival s arriving p k = cond (has arriving p) (arrivalAnswer (arrivalRefusal s k)) 0
@@ -48,11 +48,11 @@ module _ (B : Board) where
   placed r k =
       let s = r .state in
       let n = get s free - 1 in
-      let i = get s (idle n) in
-      let d = plus (bits c) (stamp c k) (get s (delay (byte k 0))) in
+      let i = get s (Idle, n) in
+      let d = plus (bits c) (stamp c k) (get s (Delay, byte k 0)) in
       record {
-        state = put (put (put (put s free n) (time i) (stamp c k)) (deadline i) d) (mask i) (get s (routes (byte k 0)));
-        memory = sets (r .memory) (packetLength * i) (packed c (get s (outgoing (byte k 0))) d (payload c k));
+        state = put (put (put (put s free n) (Time, i) (stamp c k)) (Deadline, i) d) (Mask, i) (get s (Routes, byte k 0));
+        memory = sets (r .memory) (packetLength * i) (packed c (get s (Outgoing, byte k 0)) d (payload c k));
       }
 
   abbrev pub admitted : Store → ℕ → ℕ → List ℕ → Store
@@ -65,22 +65,22 @@ module _ (B : Board) where
 
   -- Step 2, each port's choice. Slot i is early if its time's offset is above 0. Its key is deadline - t if it is on time, time - t if it is early.
   abbrev pub isEarly : List ℕ → ℕ → Bool
-  isEarly s i = ltZ (pos 0) (offset (bits c) (get s (time i)) (get s clock))
+  isEarly s i = ltZ (pos 0) (offset (bits c) (get s (Time, i)) (get s clock))
 
   unfoldable pub slotKey : List ℕ → ℕ → Key ℕ
-  slotKey s i = record { early = isEarly s i; key = minus (bits c) (cond (isEarly s i) (get s (time i)) (get s (deadline i))) (get s clock) }
+  slotKey s i = record { early = isEarly s i; key = minus (bits c) (cond (isEarly s i) (get s (Time, i)) (get s (Deadline, i))) (get s clock) }
 
   -- Each port looks at the slots whose mask has it.
   unfoldable pub candidate : List ℕ → ℕ → ℕ → Option (Key ℕ)
-  candidate s p i = cond (has (get s (mask i)) p) (some (slotKey s i)) none
+  candidate s p i = cond (has (get s (Mask, i)) p) (some (slotKey s i)) none
 
   -- The least by the comparator wins, equal keys go to the lower slot.
   unfoldable pub grant : List ℕ → ℕ → ℕ → Grant ℕ
-  grant s waiting p = granted (least (comparator ltb) (candidate s p) 256) (has waiting p) (get s (horizon p))
+  grant s waiting p = granted (least (comparator ltb) (candidate s p) 256) (has waiting p) (get s (Horizon, p))
 
   -- Step 3, the port leaves the mask of the slot that it sent.
   abbrev pub leave : ℕ → ℕ → List ℕ → List ℕ
-  leave p i s = put s (mask i) (without (get s (mask i)) p)
+  leave p i s = put s (Mask, i) (without (get s (Mask, i)) p)
 
   unfoldable pub sent : ℕ → Grant ℕ → List ℕ → List ℕ
   sent p nobody s = s
@@ -95,27 +95,27 @@ module _ (B : Board) where
 
   -- Step 4, withdrawal: slots whose deadline is t.
   abbrev pub isDue : List ℕ → ℕ → Bool
-  isDue s i = eqb (get s (deadline i)) (get s clock)
+  isDue s i = eqb (get s (Deadline, i)) (get s clock)
 
   -- What it counts on port p.
   unfoldable pub withdrawals : List ℕ → ℕ → ℕ
-  withdrawals s p = count 256 (λ i. has (get s (mask i)) p && isDue s i)
+  withdrawals s p = count 256 (λ i. has (get s (Mask, i)) p && isDue s i)
 
   -- Step 4 for the slots below i.
   unfoldable pub withdrawn : ℕ → List ℕ → List ℕ
   withdrawn zero s = s
-  withdrawn (suc i) s = let s′ = withdrawn i s in cond (isDue s′ i) (put s′ (mask i) 0) s′
+  withdrawn (suc i) s = let s′ = withdrawn i s in cond (isDue s′ i) (put s′ (Mask, i) 0) s′
 
   -- Step 5, a slot emptied goes back on the stack.
   abbrev pub giveBack : ℕ → List ℕ → List ℕ
-  giveBack i s = put (put s (idle (get s free)) i) free (get s free + 1)
+  giveBack i s = put (put s (Idle, get s free) i) free (get s free + 1)
 
   -- Step 5 for the slots below i: those that had a port to serve in `before` and have none now.
   unfoldable pub returned : ℕ → List ℕ → List ℕ → List ℕ
   returned zero before s = s
   returned (suc i) before s =
       let s′ = returned i before s in
-      cond (not (eqb (get before (mask i)) 0) && eqb (get s′ (mask i)) 0) (giveBack i s′) s′
+      cond (not (eqb (get before (Mask, i)) 0) && eqb (get s′ (Mask, i)) 0) (giveBack i s′) s′
 
   -- Step 6.
   abbrev pub advanced : List ℕ → List ℕ

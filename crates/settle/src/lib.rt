@@ -2,7 +2,7 @@
 ghost use mathlib.Core.Path.{_≡_};
 ghost use Prim.Native.Nat.{ℕ, _+_, _<_, _≤_};
 ghost use lib.ListN.{length, getD};
-ghost use Rattle.rules.specs.Board.{free, mask};
+ghost use Rattle.rules.specs.Board.{Mask, free};
 ghost use Rattle.rules.specs.Board8.{board8};
 ghost use Rattle.rules.specs.Tick.{giveBack};
 ghost use Rattle.layout.specs.Room.{Room};
@@ -30,7 +30,7 @@ fn withdraw(mask: u8, counts: &mut [u16; Router::PORTS])
 // The slot is emptied, and goes back on the stack.
 fn give_back(state: &mut [u8], s: SlotAddress)
     requires { ⌜ (length (now state) ≡ board8 .stateLength) × (board8 .get (now state) free ≤ 256) ⌝ }
-    ensures { λ _. ⌜ now (state .exit) ≡ giveBack board8 (s .0) (board8 .put (now (state .entry)) (mask (s .0)) 0) ⌝ }
+    ensures { λ _. ⌜ now (state .exit) ≡ giveBack board8 (s .0) (board8 .put (now (state .entry)) (Mask, s .0) 0) ⌝ }
 {
     layout::put(state, Field::Mask(s), 0);
     let n = layout::free_count(state);
@@ -46,7 +46,7 @@ fn settle_slot(
     sent: u8,
     counts: &mut [u16; Router::PORTS],
 )
-    requires state { ⌜ (length (now state) ≡ board8 .stateLength) × (board8 .get (now state) free ≤ 256) × (sent ≤ board8 .get (now state) (mask (s .0))) ⌝ }
+    requires state { ⌜ (length (now state) ≡ board8 .stateLength) × (board8 .get (now state) free ≤ 256) × (sent ≤ board8 .get (now state) (Mask, s .0)) ⌝ }
     requires counts { ⌜ (length (now counts) ≡ 5) × ((p : ℕ) → p < 5 → getD (now counts) p 0 ≤ 256) ⌝ }
     ensures counts { λ _. ⌜ EachPort (slotCount board8 (now (state .entry)) (t .0) (s .0) sent (now (counts .entry))) (now (counts .exit)) ⌝ }
     ensures after { λ _. ⌜ now (state .exit) ≡ slotAfter board8 (now (state .entry)) (t .0) (s .0) sent ⌝ }
@@ -77,7 +77,7 @@ fn settle_slot(
 pub fn settle(state: &mut [u8], sent: &[u8; Router::SLOTS], end: usize) -> [u16; Router::PORTS]
     requires slots { ⌜ (length (now state) ≡ board8 .stateLength) × EmptyFrom board8 (now state) end ⌝ }
     requires room { ⌜ Room (now state) ⌝ }
-    requires sent { ⌜ ((i : ℕ) → getD (now sent) i 0 ≤ board8 .get (now state) (mask i)) ⌝ }
+    requires sent { ⌜ ((i : ℕ) → getD (now sent) i 0 ≤ board8 .get (now state) (Mask, i)) ⌝ }
     ensures counts { λ r. ⌜ EachPort (missed board8 (now (state .entry)) (now (sent .entry)) 256) r ⌝ }
     ensures after { λ _. ⌜ now (state .exit) ≡ settled board8 (now (state .entry)) (now (sent .entry)) 256 ⌝ }
 {

@@ -13,7 +13,7 @@ use lib.IntN.{pos, _+ℤ_}
 use borrow.Author.Tests.{eqb-true, eqb-false}
 use Rattle.rules.specs.Account.{Kept, stored}
 use Rattle.rules.specs.Areas.{Store, Bytes, byte, low, bits, half, packet, payload, packed}
-use Rattle.rules.specs.Board.{Board, clock, horizon, latch, free, idle, time, deadline, mask, outgoing, delay, routes}
+use Rattle.rules.specs.Board.{Board, Horizon, Latch, Idle, Time, Deadline, Mask, Outgoing, Delay, Routes, clock, free}
 use Rattle.rules.specs.Board8.{board8}
 use Rattle.rules.specs.Calls.{Call, control, tick, fed, feed, wholeStep}
 use Rattle.rules.specs.Clock.{cut, plus, offset}
@@ -50,23 +50,23 @@ module _ (B : Board) (L : Laws B) where
       let s = r .state in
       let k = packet (r .memory) i in
       let u = pos (get s clock) +ℤ offsetOf B s i in
-      record { arrived = pos (get s clock); input = 0; time = u; deadline = u +ℤ pos (delayOf B s i); identifier = byte k 0; payload = payload c k; mask = get s (mask i) }
+      record { arrived = pos (get s clock); input = 0; time = u; deadline = u +ℤ pos (delayOf B s i); identifier = byte k 0; payload = payload c k; mask = get s (Mask, i) }
 
   abbrev heldOf : Store → ℕ → Held
-  heldOf r i = record { packet = packetOf r i; left = get (r .state) (mask i) }
+  heldOf r i = record { packet = packetOf r i; left = get (r .state) (Mask, i) }
 
   -- A slot with mask 0 is an empty place.
   abbrev placeOf : Store → ℕ → Option Held
-  placeOf r i = cond (eqb (get (r .state) (mask i)) 0) none (some (heldOf r i))
+  placeOf r i = cond (eqb (get (r .state) (Mask, i)) 0) none (some (heldOf r i))
 
   routerOf : Store → Router
   routerOf r =
       let s = r .state in
       record {
         clock = pos (get s clock);
-        horizon = λ p. get s (horizon p);
-        latch = λ q. get s (latch q);
-        entry = λ i. record { identifier = get s (outgoing i); delay = get s (delay i); mask = get s (routes i) };
+        horizon = λ p. get s (Horizon, p);
+        latch = λ q. get s (Latch, q);
+        entry = λ i. record { identifier = get s (Outgoing, i); delay = get s (Delay, i); mask = get s (Routes, i) };
         place = placeOf r;
         free = stack B s;
       }
@@ -100,15 +100,15 @@ module _ (B : Board) (L : Laws B) where
     unfolding bits packetBytes packet
     slot-shown i l x = record { time = time-cut; deadline = deadline-cut; left = refl; bytes = bytes-packed }
       where
-        time-lt : get s (time i) < 2 ^ bits c
-        time-lt = reading (L .get-lt s (time i) bs sized l)
+        time-lt : get s (Time, i) < 2 ^ bits c
+        time-lt = reading (L .get-lt s (Time, i) bs sized l)
 
-        time-cut : get s (time i) ≡ cut (bits c) (packetOf r i .time)
-        time-cut = subst (λ (t : ℕ). get s (time i) ≡ cut (bits c) (pos (get s clock) +ℤ offset (bits c) (get s (time i)) t)) (cut-pos (bits c) (get s clock) clock-lt) (cut-back (low c) (pos (get s clock)) (get s (time i)) time-lt)
+        time-cut : get s (Time, i) ≡ cut (bits c) (packetOf r i .time)
+        time-cut = subst (λ (t : ℕ). get s (Time, i) ≡ cut (bits c) (pos (get s clock) +ℤ offset (bits c) (get s (Time, i)) t)) (cut-pos (bits c) (get s clock) clock-lt) (cut-back (low c) (pos (get s clock)) (get s (Time, i)) time-lt)
 
-        deadline-cut : get s (deadline i) ≡ cut (bits c) (packetOf r i .deadline)
+        deadline-cut : get s (Deadline, i) ≡ cut (bits c) (packetOf r i .deadline)
         deadline-cut =
-            sym (plus-minus (bits c) (get s (deadline i)) (get s (time i)) (reading (L .get-lt s (deadline i) bs sized l)) time-lt)
+            sym (plus-minus (bits c) (get s (Deadline, i)) (get s (Time, i)) (reading (L .get-lt s (Deadline, i) bs sized l)) time-lt)
             ∙ ap (λ (n : ℕ). plus (bits c) n (delayOf B s i)) time-cut ∙ plus-cut (bits c) (packetOf r i .time) (delayOf B s i)
 
         bytes-packed : packet (r .memory) i ≡ packetBytes c (packetOf r i)
@@ -118,11 +118,11 @@ module _ (B : Board) (L : Laws B) where
             ∙ ap (λ (v : ℕ). packed c (byte k 0) v (payload c k)) (x .header ∙ deadline-cut)
 
     place-shown : (i : ℕ) → i < 256 → SlotShows B L r i (placeOf r i)
-    place-shown i l = go (eqb (get s (mask i)) 0) refl
+    place-shown i l = go (eqb (get s (Mask, i)) 0) refl
       where
-        go : (t : Bool) → eqb (get s (mask i)) 0 ≡ t → SlotShows B L r i (cond t none (some (heldOf r i)))
-        go true q = eqb-true (get s (mask i)) 0 q
-        go false q = slot-shown i l (S .stored i l (eqb-false (get s (mask i)) 0 q))
+        go : (t : Bool) → eqb (get s (Mask, i)) 0 ≡ t → SlotShows B L r i (cond t none (some (heldOf r i)))
+        go true q = eqb-true (get s (Mask, i)) 0 q
+        go false q = slot-shown i l (S .stored i l (eqb-false (get s (Mask, i)) 0 q))
 
     shows : Rel B L r (routerOf r)
     unfolding routerOf
@@ -136,17 +136,17 @@ module _ (B : Board) (L : Laws B) where
     -- ---- it is good
 
     -- What a place holds is a slot's packet, and the slot has a port to serve.
-    held-is : (i : ℕ) (h : Held) → placeOf r i ≡ some h → (get s (mask i) ≢ 0) × (heldOf r i ≡ h)
-    held-is i h q = go (eqb (get s (mask i)) 0) refl q
+    held-is : (i : ℕ) (h : Held) → placeOf r i ≡ some h → (get s (Mask, i) ≢ 0) × (heldOf r i ≡ h)
+    held-is i h q = go (eqb (get s (Mask, i)) 0) refl q
       where
-        go : (t : Bool) → eqb (get s (mask i)) 0 ≡ t → cond t none (some (heldOf r i)) ≡ some h → (get s (mask i) ≢ 0) × (heldOf r i ≡ h)
+        go : (t : Bool) → eqb (get s (Mask, i)) 0 ≡ t → cond t none (some (heldOf r i)) ≡ some h → (get s (Mask, i) ≢ 0) × (heldOf r i ≡ h)
         go true a q = none-some q
-        go false a q = (eqb-false (get s (mask i)) 0 a, some-inj q)
+        go false a q = (eqb-false (get s (Mask, i)) 0 a, some-inj q)
 
     -- A place is held where the slot's mask is not 0.
-    held-test : (i : ℕ) → isHeld (placeOf r i) ≡ not (eqb (get s (mask i)) 0)
+    held-test : (i : ℕ) → isHeld (placeOf r i) ≡ not (eqb (get s (Mask, i)) 0)
     unfolding isHeld
-    held-test i = go (eqb (get s (mask i)) 0)
+    held-test i = go (eqb (get s (Mask, i)) 0)
       where
         go : (t : Bool) → isHeld (cond t none (some (heldOf r i))) ≡ not t
         go true = refl
@@ -182,8 +182,8 @@ module _ (B : Board) (L : Laws B) where
         }
 
     -- The stack has each empty slot once, so the free list has each empty place.
-    addresses : (j : ℕ) → j < get s free → get s (idle j) < 256
-    addresses j l = L .get-lt s (idle j) bs sized (let n = S .stack .count in omega arith)
+    addresses : (j : ℕ) → j < get s free → get s (Idle, j) < 256
+    addresses j l = L .get-lt s (Idle, j) bs sized (let n = S .stack .count in omega arith)
 
     kept : Kept (placeOf r) (stack B s)
     unfolding stack stored
@@ -192,8 +192,8 @@ module _ (B : Board) (L : Laws B) where
         let (once, slots) = stack-lists B s e₁ in
         record {
           once = once;
-          places = λ i h. let (k, l, q) = at-elem (λ j. get s (idle j)) i (get s free) h in subst (λ (n : ℕ). n < 256) q (addresses k l);
-          idle = λ i l. slots i l ∙ sym (ap not (held-test i) ∙ Bool·not-not (eqb (get s (mask i)) 0));
+          places = λ i h. let (k, l, q) = at-elem (λ j. get s (Idle, j)) i (get s free) h in subst (λ (n : ℕ). n < 256) q (addresses k l);
+          idle = λ i l. slots i l ∙ sym (ap not (held-test i) ∙ Bool·not-not (eqb (get s (Mask, i)) 0));
           all = let u = sound-used B L s e₁ addresses in let n = length-stack B L s in let q = count-same (λ i. isHeld (placeOf r i)) (occupied B s) 256 (λ i l. held-test i) in omega arith;
         }
 

@@ -9,7 +9,7 @@ use native.Mathlib.Numerals.{add-one}
 use native.Mathlib.Omega.{arith}
 use lib.ListN.{length}
 use Rattle.rules.specs.Areas.{has}
-use Rattle.rules.specs.Board.{horizon}
+use Rattle.rules.specs.Board.{Horizon}
 use Rattle.rules.specs.Board8.{board8}
 use Rattle.rules.specs.Control.{commitHorizon}
 use Rattle.control.specs.declared.Latch.{Latch}
@@ -18,15 +18,15 @@ use Rattle.control.proofs.commit_horizon.Statement.{statement}
 use Rattle.control.proofs.commit_horizon.Tie as tie
 
 -- One port more.
-next : (s₀ s : List ℕ) (m h p : ℕ) {s′ : List ℕ} {b : Bool} → s ≡ commitHorizon board8 p m h s₀ → has m p ≡ b → s′ ≡ cond b (board8 .put s (horizon p) h) s → s′ ≡ commitHorizon board8 (p + 1) m h s₀
+next : (s₀ s : List ℕ) (m h p : ℕ) {s′ : List ℕ} {b : Bool} → s ≡ commitHorizon board8 p m h s₀ → has m p ≡ b → s′ ≡ cond b (board8 .put s (Horizon, p) h) s → s′ ≡ commitHorizon board8 (p + 1) m h s₀
 unfolding commitHorizon
 next s₀ s m h p e f g = g ∙ rw (add-one p, f, e)
 
 abbrev Inv-loop : tie.InvT-loop
-Inv-loop state₀ horizon mask port₀ state port = (port ≤ 5) × (length state ≡ length state₀) × (state ≡ commitHorizon board8 port mask horizon state₀)
+Inv-loop state₀ (Horizon, mask) port₀ state port = (port ≤ 5) × (length state ≡ length state₀) × (state ≡ commitHorizon board8 port mask (Horizon, state₀))
 
 abbrev μ-loop : tie.MeasureT-loop
-μ-loop state₀ horizon mask port₀ state port = 5 - port
+μ-loop state₀ (Horizon, mask) port₀ state port = 5 - port
 
 loop-holds : tie.Need-loop-holds Inv-loop μ-loop
 unfolding commitHorizon
