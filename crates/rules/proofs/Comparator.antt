@@ -8,7 +8,7 @@ use lib.Signed.{leZ, ltZ}
 use Rattle.rules.specs.Areas.{bits, half}
 use Rattle.rules.specs.Clock.{cut, minus, offset}
 use Rattle.rules.specs.Order.{by, then, Key, onTimeFirst, comparator}
-use Rattle.rules.specs.Whole.{Packet}
+use Rattle.rules.specs.Whole.{Packet, packetKey}
 use Rattle.rules.proofs.Booleans.{is-true}
 use Rattle.rules.proofs.Integers.{diff-gt, diff-lt}
 use Rattle.rules.proofs.Offsets.{at-most}
@@ -18,10 +18,6 @@ use Rattle.rules.proofs.TimeLaws.{window-offset, window-on-time, window
 -- The key of a packet of either sort, a time or a deadline.
 abbrev pub keyOf : Bool → Packet → ℤ
 keyOf e x = cond e (x .time) (x .deadline)
-
--- What the comparator sees of the packet x at the whole-number clock t.
-abbrev pub wholeKey : ℤ → Packet → Key ℤ
-wholeKey t x = record { early = ltZ t (x .time); key = keyOf (ltZ t (x .time)) x }
 
 module _ (c : ℕ) where
   -- What it sees of a slot that shows the packet, at the clock cut to a reading of c bytes.
@@ -41,7 +37,7 @@ module _ (c : ℕ) where
     read-key false q = window-on-time c t x F (is-true (leZ (x .time) t) (at-most t (x .time) false q))
 
   -- Two packets go in the order of their whole-number keys.
-  pub comparator-whole : (t : ℤ) (x y : Packet) → InWindow c t (half c) x → InWindow c t (half c) y → comparator ltb (readKey t x) (readKey t y) ≡ comparator ltZ (wholeKey t x) (wholeKey t y)
+  pub comparator-whole : (t : ℤ) (x y : Packet) → InWindow c t (half c) x → InWindow c t (half c) y → comparator ltb (readKey t x) (readKey t y) ≡ by (packetKey t) (comparator ltZ) x y
   unfolding comparator then by onTimeFirst
   comparator-whole t x y F G = rw (read-early t x F, read-early t y G) (go (ltZ t (x .time)) (ltZ t (y .time)) refl refl)
     where
@@ -61,6 +57,7 @@ module _ (c : ℕ) where
   -- So while both stay of one sort, the clock does not change it.
   pub comparator-still : (t u : ℤ) (x y : Packet) → InWindow c t (half c) x → InWindow c t (half c) y → InWindow c u (half c) x → InWindow c u (half c) y
       → ltZ t (x .time) ≡ ltZ u (x .time) → ltZ t (y .time) ≡ ltZ u (y .time) → comparator ltb (readKey t x) (readKey t y) ≡ comparator ltb (readKey u x) (readKey u y)
+  unfolding by
   comparator-still t u x y F G F′ G′ p q =
       comparator-whole t x y F G
       ∙ ap₂ (λ (d e : Bool). comparator ltZ (record { early = d; key = keyOf d x }) (record { early = e; key = keyOf e y })) p q

@@ -1,7 +1,7 @@
 -- Whom the router that never turns over grants a port, from the packets that wait for it. Assumes nothing.
 use Prim.Native.Nat.{ℕ, _<_}
 use mathlib.Core.Path.{_≡_, refl, sym, ap, ap₂, _∙_}
-use mathlib.Core.Bool.{Bool, true, false, cond}
+use mathlib.Core.Bool.{Bool, true, false, cond, true≢false}
 use mathlib.Core.Option.{Option, none, some}
 use native.Mathlib.Omega.{arith}
 use lib.Dec.{T}
@@ -9,11 +9,11 @@ use lib.IntN.{pos, _-ℤ_}
 use lib.Signed.{leZ, ltZ}
 use Rattle.rules.specs.Areas.{has, Grant, nobody, bestEffort, onTime, early}
 use Rattle.rules.specs.Indices.{least}
-use Rattle.rules.specs.Order.{by}
-use Rattle.rules.specs.Whole.{Packet, Held, Router, toServe, filter, byDeadline, byTime, granted, grant}
+use Rattle.rules.specs.Order.{Order, by, then, onTimeFirst, comparator}
+use Rattle.rules.specs.Whole.{Packet, Held, Router, toServe, packetKey, granted, grant}
 use Rattle.rules.proofs.Booleans.{some-inj, none-some, is-true, true-is}
 use Rattle.rules.proofs.IndexLaws.{least-in}
-use Rattle.rules.proofs.OrderLaws.{strict-wholes, strict-by, least-beats}
+use Rattle.rules.proofs.OrderLaws.{fails, strict-wholes, strict-by, strict-comparator, least-beats}
 use Rattle.rules.proofs.Integers.{orders, diff-nat, not-lt}
 
 -- What a grant of port p at the router r rests on.
@@ -23,111 +23,104 @@ Rests r p bestEffort = Unit {0}
 Rests r p (onTime (i, x)) = (i < 256) × (toServe (r .place i) p ≡ some x) × T (leZ (x .time) (r .clock))
 Rests r p (early (i, x)) = (i < 256) × (toServe (r .place i) p ≡ some x) × T (ltZ (r .clock) (x .time)) × T (leZ (x .time -ℤ r .clock) (pos (r .horizon p)))
 
--- By cases of the test.
-filter-some : (t : Packet → Bool) (v : Option Packet) (x : Packet) → filter t v ≡ some x → (v ≡ some x) × (t x ≡ true)
-unfolding filter
-filter-some t none x e = none-some e
-filter-some t (some y) x e = go (t y) refl e
-  where
-    go : (b : Bool) → t y ≡ b → cond b (some y) none ≡ some x → (some y ≡ some x) × (t x ≡ true)
-    go true q e = (e, sym (ap t (some-inj e)) ∙ q)
-    go false q e = none-some e
-
--- A packet filtered by a test that it passes is there.
-filter-in : (t : Packet → Bool) (v : Option Packet) (x : Packet) → v ≡ some x → t x ≡ true → filter t v ≡ some x
-unfolding filter
-filter-in t v x e q = ap (filter t) e ∙ ap (λ (b : Bool). cond b (some x) none) q
-
--- ---- the grant of a port, from the packets that wait for it
-
 module _ (r : Router) (b p : ℕ) where
-  abbrev readyAt : ℕ → Option Packet
-  readyAt i = filter (λ x. leZ (x .time) (r .clock)) (toServe (r .place i) p)
+  abbrev before : Order Packet
+  before = by (packetKey (r .clock)) (comparator ltZ)
 
-  abbrev earlyAt : ℕ → Option Packet
-  earlyAt i = filter (λ x. ltZ (r .clock) (x .time)) (toServe (r .place i) p)
+  abbrev waiting : ℕ → Option Packet
+  waiting i = toServe (r .place i) p
 
-  abbrev ready : Option (ℕ × Packet)
-  ready = least byDeadline readyAt 256
+  abbrev winner : Option (ℕ × Packet)
+  winner = least before waiting 256
 
-  abbrev ahead : Option (ℕ × Packet)
-  ahead = least byTime earlyAt 256
+  abbrev isEarly : Packet → Bool
+  isEarly x = ltZ (r .clock) (x .time)
 
-  -- The least is one of the keys.
-  ready-in : (w : ℕ × Packet) → ready ≡ some w → Rests r p (onTime w)
-  ready-in w q =
-      let (l, f) = least-in byDeadline readyAt 256 (w .0) (w .1) q in
-      let (u, v) = filter-some (λ x. leZ (x .time) (r .clock)) (toServe (r .place (w .0)) p) (w .1) f in
-      (l, u, is-true (leZ (w .1 .time) (r .clock)) v)
+  abbrev isNear : Packet → Bool
+  isNear x = leZ (x .time -ℤ r .clock) (pos (r .horizon p))
+
+  -- Against each waiting packet there is a winner that it doesn't go before.
+  wins : (i : ℕ) (x : Packet) → i < 256 → waiting i ≡ some x → (j : ℕ) × (y : Packet) × (winner ≡ some (j, y)) × (before x y ≡ false)
+  wins = least-beats (strict-by (packetKey (r .clock)) (strict-comparator strict-wholes)) waiting 256
+
+  -- What a packet on time doesn't go before is on time, of no later deadline; of two early ones, of no later time.
+  abbrev Behind : Packet → Packet → Bool → Bool → Type 0
+  Behind x y false t = (t ≡ false) × T (leZ (y .deadline) (x .deadline))
+  Behind x y true false = Unit {0}
+  Behind x y true true = T (leZ (y .time) (x .time))
+
+  not-before : (x y : Packet) (a t : Bool) → isEarly x ≡ a → isEarly y ≡ t → before x y ≡ false → Behind x y a t
+  unfolding by comparator then onTimeFirst
+  not-before x y a t p q n = go a t (rw (sym p, sym q) n)
+    where
+      go : (a t : Bool) → comparator ltZ (record { early = a; key = cond a (x .time) (x .deadline) }) (record { early = t; key = cond t (y .time) (y .deadline) }) ≡ false → Behind x y a t
+      go false true n = absurd (true≢false n)
+      go false false n = (refl, not-lt (x .deadline) (y .deadline) n)
+      go true true n = not-lt (x .time) (y .time) n
+      go true false n = tt
 
   -- A waiting packet whose time has come makes the port send on time one of no later deadline.
-  pub grant-on-time : (i : ℕ) (x : Packet) → i < 256 → toServe (r .place i) p ≡ some x → T (leZ (x .time) (r .clock)) → (j : ℕ) × (y : Packet) × (grant r b p ≡ onTime (j, y)) × T (leZ (y .deadline) (x .deadline))
-  unfolding grant granted by
+  pub grant-on-time : (i : ℕ) (x : Packet) → i < 256 → waiting i ≡ some x → T (leZ (x .time) (r .clock)) → (j : ℕ) × (y : Packet) × (grant r b p ≡ onTime (j, y)) × T (leZ (y .deadline) (x .deadline))
+  unfolding grant granted
   grant-on-time i x l e h =
-      let (j, y, q, n) = least-beats (strict-by (λ x. x .deadline) strict-wholes) readyAt 256 i x l (filter-in (λ x. leZ (x .time) (r .clock)) (toServe (r .place i) p) x e (true-is (leZ (x .time) (r .clock)) h)) in
-      (j, y, ap (λ v. granted v (has b p) ahead (r .clock) (r .horizon p)) q, not-lt (x .deadline) (y .deadline) n)
+      let (j, y, q, n) = wins i x l e in
+      let on-time = fails (isEarly x) (λ k. let m = is-true (isEarly x) k in omega (arith, orders)) in
+      let (z, d) = not-before x y false (isEarly y) on-time refl n in
+      (j, y, rw (q, z), d)
 
   -- Best-effort has the port only where it waits.
   pub grant-best-effort : grant r b p ≡ bestEffort → has b p ≡ true
   unfolding grant granted
-  grant-best-effort e = go ready (has b p) refl ahead e
+  grant-best-effort e = go winner (has b p) e
     where
-      clash : {C : Type 0} (t : Bool) (w : ℕ × Packet) → _≡_ {A = Grant (ℕ × Packet)} (cond t (early w) nobody) bestEffort → C
-      clash true w e = let z : _≡_ {A = ℕ} 0 1 = cc in absurd (omega arith)
-      clash false w e = let z : _≡_ {A = ℕ} 0 1 = cc in absurd (omega arith)
+      clash : {C : Type 0} (w : ℕ × Packet) (a t : Bool) → _≡_ {A = Grant (ℕ × Packet)} (cond a (cond t (early w) nobody) (onTime w)) bestEffort → C
+      clash w true true e = let z : _≡_ {A = ℕ} 0 1 = cc in absurd (omega arith)
+      clash w true false e = let z : _≡_ {A = ℕ} 0 1 = cc in absurd (omega arith)
+      clash w false t e = let z : _≡_ {A = ℕ} 0 1 = cc in absurd (omega arith)
 
-      go : (o : Option (ℕ × Packet)) (t : Bool) → has b p ≡ t → (a : Option (ℕ × Packet)) → granted o t a (r .clock) (r .horizon p) ≡ bestEffort → has b p ≡ true
-      go (some w) t q a e = let z : _≡_ {A = ℕ} 0 1 = cc in absurd (omega arith)
-      go none true q a e = q
-      go none false q none e = let z : _≡_ {A = ℕ} 0 1 = cc in absurd (omega arith)
-      go none false q (some w) e = clash (leZ (w .1 .time -ℤ r .clock) (pos (r .horizon p))) w e
+      go : (v : Option (ℕ × Packet)) (t : Bool) → granted v t (r .clock) (r .horizon p) ≡ bestEffort → t ≡ true
+      go v true e = refl
+      go none false e = let z : _≡_ {A = ℕ} 0 1 = cc in absurd (omega arith)
+      go (some w) false e = clash w (isEarly (w .1)) (isNear (w .1)) e
 
-  module _ (none-ready : (i : ℕ) (x : Packet) → i < 256 → toServe (r .place i) p ≡ some x → T (ltZ (r .clock) (x .time))) where
-    -- The least would be on time.
-    not-ready : ready ≡ none
-    not-ready = go ready refl
-      where
-        go : (o : Option (ℕ × Packet)) → ready ≡ o → o ≡ none
-        go none q = refl
-        go (some w) q =
-            let (l, u, v) = ready-in w q in
-            let a = none-ready (w .0) (w .1) l u in
-            absurd (omega (arith, orders))
+  module _ (all-early : (i : ℕ) (x : Packet) → i < 256 → waiting i ≡ some x → T (isEarly x)) where
+    -- The winner waits.
+    winner-early : (j : ℕ) (y : Packet) → winner ≡ some (j, y) → isEarly y ≡ true
+    winner-early j y q = let (l, e) = least-in before waiting 256 j y q in true-is (isEarly y) (all-early j y l e)
 
     -- Where nothing is on time, best-effort has the port if it waits.
     pub grant-waits : has b p ≡ true → grant r b p ≡ bestEffort
     unfolding grant granted
-    grant-waits e = ap₂ (λ v t. granted v t ahead (r .clock) (r .horizon p)) not-ready e
+    grant-waits e = rw e (go winner refl)
+      where
+        go : (v : Option (ℕ × Packet)) → winner ≡ v → granted v true (r .clock) (r .horizon p) ≡ bestEffort
+        go none q = refl
+        go (some (j, y)) q = rw (winner-early j y q)
 
     -- Else a packet within the horizon makes it send early one of no later time.
-    pub grant-early : has b p ≡ false → (i : ℕ) (x : Packet) → i < 256 → toServe (r .place i) p ≡ some x → T (leZ (x .time -ℤ r .clock) (pos (r .horizon p))) → (j : ℕ) × (y : Packet) × (grant r b p ≡ early (j, y)) × T (leZ (y .time) (x .time))
-    unfolding grant granted by
+    pub grant-early : has b p ≡ false → (i : ℕ) (x : Packet) → i < 256 → waiting i ≡ some x → T (isNear x) → (j : ℕ) × (y : Packet) × (grant r b p ≡ early (j, y)) × T (leZ (y .time) (x .time))
+    unfolding grant granted
     grant-early f i x l e h =
-        let (j, y, q, n) = least-beats (strict-by (λ x. x .time) strict-wholes) earlyAt 256 i x l (filter-in (λ x. ltZ (r .clock) (x .time)) (toServe (r .place i) p) x e (true-is (ltZ (r .clock) (x .time)) (none-ready i x l e))) in
-        let le = not-lt (x .time) (y .time) n in
-        let near = true-is (leZ (y .time -ℤ r .clock) (pos (r .horizon p))) (omega (arith, orders, diff-nat (x .time) (r .clock), diff-nat (y .time) (r .clock))) in
-        (j, y, ap₂ (λ v t. granted v t ahead (r .clock) (r .horizon p)) not-ready f ∙ ap (λ v. granted none false v (r .clock) (r .horizon p)) q ∙ ap (λ (t : Bool). cond t (early (j, y)) nobody) near, le)
+        let (j, y, q, n) = wins i x l e in
+        let le = not-before x y true true (true-is (isEarly x) (all-early i x l e)) (winner-early j y q) n in
+        let near = true-is (isNear y) (omega (arith, orders, diff-nat (x .time) (r .clock), diff-nat (y .time) (r .clock))) in
+        (j, y, rw (q, winner-early j y q, f, near), le)
 
--- ---- what a grant rests on
-
-module _ (r : Router) (b p : ℕ) where
-  -- By the two choices, and what the least is.
+  -- By cases of the winner, which is a packet that waits.
   pub grant-rests : Rests r p (grant r b p)
   unfolding grant granted
-  grant-rests = go (ready r b p) refl (has b p) (ahead r b p) refl
+  grant-rests = go winner refl (has b p)
     where
-      cases : (w : ℕ × Packet) → ahead r b p ≡ some w → (t : Bool) → leZ (w .1 .time -ℤ r .clock) (pos (r .horizon p)) ≡ t → Rests r p (cond t (early w) nobody)
-      cases w e true q =
-          let (l, f) = least-in byTime (earlyAt r b p) 256 (w .0) (w .1) e in
-          let (u, v) = filter-some (λ x. ltZ (r .clock) (x .time)) (toServe (r .place (w .0)) p) (w .1) f in
-          (l, u, is-true (ltZ (r .clock) (w .1 .time)) v, is-true (leZ (w .1 .time -ℤ r .clock) (pos (r .horizon p))) q)
-      cases w e false q = tt
+      cases : (i : ℕ) (x : Packet) → i < 256 → waiting i ≡ some x → (a t d : Bool) → isEarly x ≡ a → isNear x ≡ d → Rests r p (cond a (cond t bestEffort (cond d (early (i, x)) nobody)) (onTime (i, x)))
+      cases i x l e false t d q z = (l, e, not-lt (r .clock) (x .time) q)
+      cases i x l e true true d q z = tt
+      cases i x l e true false true q z = (l, e, is-true (isEarly x) q, is-true (isNear x) z)
+      cases i x l e true false false q z = tt
 
-      go : (o : Option (ℕ × Packet)) → ready r b p ≡ o → (t : Bool) → (e : Option (ℕ × Packet)) → ahead r b p ≡ e → Rests r p (granted o t e (r .clock) (r .horizon p))
-      go (some w) q t e s = ready-in r b p w q
-      go none q true e s = tt
-      go none q false none s = tt
-      go none q false (some w) s = cases w s (leZ (w .1 .time -ℤ r .clock) (pos (r .horizon p))) refl
+      go : (v : Option (ℕ × Packet)) → winner ≡ v → (t : Bool) → Rests r p (granted v t (r .clock) (r .horizon p))
+      go none q true = tt
+      go none q false = tt
+      go (some (i, x)) q t = let (l, e) = least-in before waiting 256 i x q in cases i x l e (isEarly x) t (isNear x) refl refl
 
 -- A waiting packet is held, with the port left.
 pub toServe-held : (v : Option Held) (p : ℕ) (x : Packet) → toServe v p ≡ some x → (h : Held) × (v ≡ some h) × (h .packet ≡ x) × (has (h .left) p ≡ true)

@@ -27,7 +27,7 @@ either true = inl refl
 either false = inr refl
 
 -- What can't hold doesn't.
-fails : (t : Bool) → (t ≡ true → ⊥) → t ≡ false
+pub fails : (t : Bool) → (t ≡ true → ⊥) → t ≡ false
 fails true n = absurd (n refl)
 fails false n = refl
 
@@ -154,59 +154,26 @@ module _ {A : Type 0} {less : Order A} (S : Strict less) where
           let j : i ≡ k = omega arith in
           subst (λ (y : Option A). Beats (better less (least less key k) k y) x) (sym e ∙ ap key j) (better-new (least less key k) k x)
 
--- ---- the comparator: the least on-time key, and if there is none the least early one
+-- ---- the comparator
 
-module _ {K : Type 0} (less : Order K) where
-  -- The key of a candidate of one sort.
-  unfoldable pub sorted : Bool → Option (Key K) → Option K
-  sorted b none = none
-  sorted b (some k) = cond (k .early) (cond b (some (k .key)) none) (cond b none (some (k .key)))
+strict-on-time-first : Strict onTimeFirst
+unfolding onTimeFirst
+strict-on-time-first = record { irrefl = irrefl; trans = trans; cotrans = cotrans }
+  where
+    irrefl : (x : Bool) → (not x && x) ≡ true → ⊥
+    irrefl true e = true≢false (sym e)
+    irrefl false e = true≢false (sym e)
 
-  -- The first if there is one, else the second.
-  unfoldable pub first : Option (ℕ × K) → Option (ℕ × K) → Option (ℕ × Key K)
-  first (some (i, x)) e = some (i, record { early = false; key = x })
-  first none (some (i, x)) = some (i, record { early = true; key = x })
-  first none none = none
+    trans : (x y z : Bool) → (not x && y) ≡ true → (not y && z) ≡ true → (not x && z) ≡ true
+    trans true y z e q = absurd (true≢false (sym e))
+    trans false true z e q = absurd (true≢false (sym q))
+    trans false false z e q = absurd (true≢false (sym e))
 
-  -- One candidate more is compared with the least of its sort.
-  better-sorts : (o e : Option (ℕ × K)) (k : ℕ) (b : Bool) (x : K) → let v : Option (Key K) = some (record { early = b; key = x }) in
-      better (comparator less) (first o e) k v ≡ first (better less o k (sorted false v)) (better less e k (sorted true v))
-  unfolding better first sorted comparator then by onTimeFirst
-  better-sorts none none k false x = refl
-  better-sorts none none k true x = refl
-  better-sorts none (some (i, y)) k false x = refl
-  better-sorts none (some (i, y)) k true x = go (less x y)
-    where
-      go : (t : Bool) → cond t (some (k, record { early = true; key = x })) (some (i, record { early = true; key = y })) ≡ first none (cond t (some (k, x)) (some (i, y)))
-      go true = refl
-      go false = refl
-  better-sorts (some (i, y)) e k true x = refl
-  better-sorts (some (i, y)) e k false x = go (less x y)
-    where
-      go : (t : Bool) → cond t (some (k, record { early = false; key = x })) (some (i, record { early = false; key = y })) ≡ first (cond t (some (k, x)) (some (i, y))) (better less e k none)
-      go true = refl
-      go false = refl
+    cotrans : (x y z : Bool) → (not x && z) ≡ true → ((not x && y) ≡ true) ⊎ ((not y && z) ≡ true)
+    cotrans true y z e = absurd (true≢false (sym e))
+    cotrans false true z e = inl refl
+    cotrans false false z e = inr e
 
-  -- No candidate changes nothing.
-  better-none : (o e : Option (ℕ × K)) (k : ℕ) → better (comparator less) (first o e) k none ≡ first (better less o k none) (better less e k none)
-  unfolding better first
-  better-none none none k = refl
-  better-none none (some (i, y)) k = refl
-  better-none (some (i, y)) none k = refl
-  better-none (some (i, y)) (some w) k = refl
-
-  -- So the least of all is the least on time, or else the least early one.
-  pub least-sorts : (key : ℕ → Option (Key K)) (k : ℕ) → least (comparator less) key k ≡ first (least less (λ i. sorted false (key i)) k) (least less (λ i. sorted true (key i)) k)
-  unfolding least first sorted
-  least-sorts key zero = refl
-  least-sorts key (suc k) = ap (λ v. better (comparator less) v k (key k)) (least-sorts key k) ∙ go (key k)
-    where
-      o : Option (ℕ × K)
-      o = least less (λ i. sorted false (key i)) k
-
-      e : Option (ℕ × K)
-      e = least less (λ i. sorted true (key i)) k
-
-      go : (v : Option (Key K)) → better (comparator less) (first o e) k v ≡ first (better less o k (sorted false v)) (better less e k (sorted true v))
-      go none = better-none o e k
-      go (some x) = better-sorts o e k (x .early) (x .key)
+pub strict-comparator : {K : Type 0} {less : Order K} → Strict less → Strict (comparator less)
+unfolding comparator
+strict-comparator {less = less} S = strict-then (by (λ k. k .early) onTimeFirst) (by (λ k. k .key) less) (strict-by (λ k. k .early) strict-on-time-first) (strict-by (λ k. k .key) S)

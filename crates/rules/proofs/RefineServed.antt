@@ -12,24 +12,21 @@ use borrow.Author.Tests.{eq-eqb, ne-eqb}
 use Rattle.rules.specs.Account.{Kept}
 use Rattle.rules.specs.Areas.{bits, half, packet, has, without, Store, Grant, nobody, bestEffort, onTime, early, grantCode}
 use Rattle.rules.specs.Board.{Board, Horizon, Idle, Time, Deadline, Mask, clock, free}
-use Rattle.rules.specs.Clock.{cut, minus, offset}
+use Rattle.rules.specs.Clock.{cut, minus}
 use Rattle.rules.specs.Demand3.{HeldShown}
 use Rattle.rules.specs.Indices.{least}
-use Rattle.rules.specs.Order.{by}
-use Rattle.rules.specs.Tick.{isEarly, slotKey, candidate}
-use Rattle.rules.specs.Whole.{Packet, Held, Router, TickCall, withPlaces, toServe, filter, lose, packetBytes}
+use Rattle.rules.specs.Order.{Order, by, Key, comparator}
+use Rattle.rules.specs.Tick.{slotKey, candidate}
+use Rattle.rules.specs.Whole.{Packet, Held, Router, TickCall, withPlaces, toServe, packetKey, lose, packetBytes}
 use Rattle.rules.proofs.BoardLaws.{Laws, sameField}
 use Rattle.rules.specs.Tick as Tick
 use Rattle.rules.specs.Whole as Whole
 use Rattle.rules.proofs.IndexLaws.{Keys, Least, least-same}
-use Rattle.rules.proofs.Integers.{diff-lt}
-use Rattle.rules.proofs.Offsets.{at-most}
-use Rattle.rules.proofs.Comparator.{keyOf, read-early, read-key}
-use Rattle.rules.proofs.OrderLaws.{sorted, first, least-sorts}
+use Rattle.rules.proofs.Comparator.{readKey, read-early, read-key, comparator-whole}
 use Rattle.rules.proofs.Masks.{has-zero}
 use Rattle.rules.proofs.WholeLaws.{AllHeld}
 use Rattle.rules.proofs.Grants.{Rests, grant-rests, toServe-held}
-use Rattle.rules.proofs.Good.{Good, HeldInWindow, Input, after, serving, window-then, served-kept}
+use Rattle.rules.proofs.Good.{Good, InWindow, HeldInWindow, Input, after, serving, window-then, served-kept}
 use Rattle.rules.proofs.StateLaws.{Reads, none-out, reads-self, reads-put, reads-off, stack-same}
 use Rattle.rules.proofs.Relation.{SlotShows, Rel, with-state, rel-room, shows-put, settings-places}
 
@@ -68,78 +65,57 @@ module _ (B : Board) (L : Laws B) where
 
     -- ---- the keys are in one order
 
-    -- A slot's key is its packet's less the clock.
-    abbrev IsKey : Bool → ℕ → Packet → Type 0
-    IsKey e a x = pos a ≡ keyOf e x -ℤ t
+    -- The key is what the comparator sees of a slot that shows the packet.
+    abbrev IsKey : Key ℕ → Packet → Type 0
+    IsKey k x = (k ≡ readKey c t x) × InWindow c t (half c) x
 
-    key-order : (e : Bool) (a a′ : ℕ) (x x′ : Packet) → IsKey e a x → IsKey e a′ x′ → ltb a a′ ≡ by (keyOf e) ltZ x x′
-    unfolding by
-    key-order e a a′ x x′ k k′ = ap₂ ltZ k k′ ∙ diff-lt t (keyOf e x) (keyOf e x′)
+    abbrev before : Order Packet
+    before = by (packetKey t) (comparator ltZ)
 
-    abbrev Leasts : Bool → Option (ℕ × ℕ) → Option (ℕ × Packet) → Type 0
-    Leasts e = Least ltb (by (keyOf e) ltZ) (IsKey e) (key-order e)
+    key-order : (k k′ : Key ℕ) (x x′ : Packet) → IsKey k x → IsKey k′ x′ → comparator ltb k k′ ≡ before x x′
+    key-order k k′ x x′ (q, F) (q′, F′) = ap₂ (comparator ltb) q q′ ∙ comparator-whole c t x x′ F F′
 
-    -- The packets of a sort.
-    abbrev ofSort : Bool → Packet → Bool
-    ofSort e x = cond e (ltZ t (x .time)) (leZ (x .time) t)
+    -- The slots that wait for the port show the packets that do.
+    slot-keys : (i : ℕ) → i < 256 → Keys (comparator ltb) before IsKey key-order (candidate B s p i) (toServe (w .place i) p)
+    unfolding candidate slotKey toServe
+    slot-keys i l = go (w .place i) refl (R .place i l)
+      where
+        at : (h : Held) → HeldShown B r i h → InWindow c t (half c) (h .packet) → (a : Bool) → Keys (comparator ltb) before IsKey key-order (cond a (some (slotKey B s i)) none) (cond a (some (h .packet)) none)
+        at h H F true = (rw (H .time, H .deadline, clock-same), F)
+        at h H F false = tt
 
-    -- A slot that holds a packet is early where the packet is, and its key is the packet's.
-    slot-early : (i : ℕ) → i < 256 → (h : Held) → w .place i ≡ some h → HeldShown B r i h → isEarly B s i ≡ ltZ t (h .packet .time)
-    slot-early i l h e H =
-        ap (ltZ (pos 0)) (ap₂ (offset (bits c)) (H .time) clock-same) ∙ read-early c t (h .packet) (F i l h e .window)
+        go : (v : Option Held) → w .place i ≡ v → SlotShows B L r i v → Keys (comparator ltb) before IsKey key-order (candidate B s p i) (toServe v p)
+        go none q h = rw (h, has-zero p hp) tt
+        go (some h) q H = rw (H .left) (at h H (F i l h q .window) (has (h .left) p))
 
-    slot-key : (i : ℕ) → i < 256 → (h : Held) → w .place i ≡ some h → HeldShown B r i h → (e : Bool) → ltZ t (h .packet .time) ≡ e → IsKey e (minus (bits c) (cond e (get s (Time, i)) (get s (Deadline, i))) (get s clock)) (h .packet)
-    slot-key i l h q H e z = rw (H .time, H .deadline, clock-same) (read-key c t (h .packet) (F i l h q .window) e z)
-
-    -- So the candidates of a sort are the slots of its packets, with keys in one order.
-    sort-keys : (e : Bool) (i : ℕ) → i < 256 → Keys ltb (by (keyOf e) ltZ) (IsKey e) (key-order e) (sorted ltb e (candidate B s p i)) (filter (ofSort e) (toServe (w .place i) p))
-    unfolding candidate slotKey sorted filter toServe
-    sort-keys e i l = go (w .place i) refl (R .place i l)
+    -- By cases of the winner: it is early, and within the horizon, in both.
+    granted-same : (h : ℕ) (v : Option (ℕ × Key ℕ)) (v′ : Option (ℕ × Packet)) → Least (comparator ltb) before IsKey key-order v v′ → (b : Bool) → Tick.granted v b h ≡ strip (Whole.granted v′ b t h)
+    unfolding Tick.granted Whole.granted strip
+    granted-same h none none q true = refl
+    granted-same h none none q false = refl
+    granted-same h none (some w) q b = absurd q
+    granted-same h (some v) none q b = absurd q
+    granted-same h (some (i, k)) (some (j, x)) (z, (q, F)) b = rw (z, q, read-early c t x F) (go (ltZ t (x .time)) refl b)
       where
         n : Bool → ℕ
-        n e = minus (bits c) (cond e (get s (Time, i)) (get s (Deadline, i))) (get s clock)
+        n e = minus (bits c) (cond e (cut (bits c) (x .time)) (cut (bits c) (x .deadline))) (cut (bits c) t)
 
-        at : (x : Packet) (a d e : Bool) → ltZ t (x .time) ≡ d → ((e : Bool) → ltZ t (x .time) ≡ e → IsKey e (n e) x)
-            → Keys ltb (by (keyOf e) ltZ) (IsKey e) (key-order e) (sorted ltb e (cond a (some (record { early = d; key = n d })) none)) (filter (ofSort e) (cond a (some x) none))
-        at x false d e q f = tt
-        at x true true true q f = rw q (f true q)
-        at x true true false q f = rw (at-most t (x .time) true q) tt
-        at x true false true q f = rw q tt
-        at x true false false q f = rw (at-most t (x .time) false q) (f false q)
+        near : (a : Bool) → cond a (early j) nobody ≡ strip (cond a (early (j, x)) nobody)
+        near true = refl
+        near false = refl
 
-        go : (v : Option Held) → w .place i ≡ v → SlotShows B L r i v → Keys ltb (by (keyOf e) ltZ) (IsKey e) (key-order e) (sorted ltb e (candidate B s p i)) (filter (ofSort e) (toServe v p))
-        go none q h = rw (h, has-zero p hp) tt
-        go (some h) q H = rw (H .left, slot-early i l h q H) (at (h .packet) (has (h .left) p) (ltZ t (h .packet .time)) e refl (slot-key i l h q H))
-
-    leasts : (e : Bool) → Leasts e (least ltb (λ i. sorted ltb e (candidate B s p i)) 256) (least (by (keyOf e) ltZ) (λ i. filter (ofSort e) (toServe (w .place i) p)) 256)
-    leasts e = least-same ltb (by (keyOf e) ltZ) (IsKey e) (key-order e) (λ i. sorted ltb e (candidate B s p i)) (λ i. filter (ofSort e) (toServe (w .place i) p)) 256 (sort-keys e)
-
-    -- By cases of the two choices.
-    granted-same : (h : ℕ) (o : Option (ℕ × ℕ)) (o′ : Option (ℕ × Packet)) → Leasts false o o′ → (b : Bool) (e : Option (ℕ × ℕ)) (e′ : Option (ℕ × Packet)) → Leasts true e e′
-        → Tick.granted (first ltb o e) b h ≡ strip (Whole.granted o′ b e′ t h)
-    unfolding Tick.granted Whole.granted first strip
-    granted-same h (some v) (some w) q b e e′ k = ap onTime (q .0)
-    granted-same h (some v) none q b e e′ k = absurd q
-    granted-same h none (some w) q b e e′ k = absurd q
-    granted-same h none none q true none e′ k = refl
-    granted-same h none none q true (some v) e′ k = refl
-    granted-same h none none q false none none k = refl
-    granted-same h none none q false none (some w) k = absurd k
-    granted-same h none none q false (some v) none k = absurd k
-    granted-same h none none q false (some v) (some w) k = subst (λ (z : ℤ). cond (leb (v .1) h) (early (v .0)) nobody ≡ strip (cond (leZ z (pos h)) (early w) nobody)) (k .1) (go (leb (v .1) h))
-      where
-        go : (a : Bool) → cond a (early (v .0)) nobody ≡ strip (cond a (early w) nobody)
-        go true = ap early (k .0)
-        go false = refl
+        go : (e : Bool) → ltZ t (x .time) ≡ e → (b : Bool) → cond e (cond b bestEffort (cond (leb (n e) h) (early j) nobody)) (onTime j) ≡ strip (cond e (cond b bestEffort (cond (leZ (x .time -ℤ t) (pos h)) (early (j, x)) nobody)) (onTime (j, x)))
+        go false y b = refl
+        go true y true = refl
+        go true y false = subst (λ (z : ℤ). cond (leb (n true) h) (early j) nobody ≡ strip (cond (leZ z (pos h)) (early (j, x)) nobody)) (read-key c t x F true y) (near (leb (n true) h))
 
     -- Both routers grant the port to the same.
     grant-same : (b : ℕ) → Tick.grant B s b p ≡ strip (Whole.grant w b p)
     unfolding Tick.grant Whole.grant
     grant-same b =
-        let o : Bool → Option (ℕ × ℕ) = λ e. least ltb (λ i. sorted ltb e (candidate B s p i)) 256 in
-        let o′ : Bool → Option (ℕ × Packet) = λ e. least (by (keyOf e) ltZ) (λ i. filter (ofSort e) (toServe (w .place i) p)) 256 in
-        ap₂ (λ v n. Tick.granted v (has b p) n) (least-sorts ltb (candidate B s p) 256) (R .settings .reads (Horizon, p) refl hp)
-        ∙ granted-same (w .horizon p) (o false) (o′ false) (leasts false) (has b p) (o true) (o′ true) (leasts true)
+        ap (Tick.granted (least (comparator ltb) (candidate B s p) 256) (has b p)) (R .settings .reads (Horizon, p) refl hp)
+        ∙ granted-same (w .horizon p) (least (comparator ltb) (candidate B s p) 256) (least before (λ i. toServe (w .place i) p) 256)
+            (least-same (comparator ltb) before IsKey key-order (candidate B s p) (λ i. toServe (w .place i) p) 256 slot-keys) (has b p)
 
     -- ---- a port is served
 

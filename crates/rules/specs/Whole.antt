@@ -8,7 +8,7 @@ use lib.Dec.{eqb}
 use lib.IntN.{ℤ, pos, _+ℤ_, _-ℤ_, sucℤ}
 use lib.Signed.{ltZ, leZ}
 use Rattle.rules.specs.Clock.{cut}
-use Rattle.rules.specs.Order.{Order, by}
+use Rattle.rules.specs.Order.{by, Key, comparator}
 use Rattle.rules.specs.Indices.{least}
 use Rattle.rules.specs.Asked.{asked, arrivalQuestions}
 use Rattle.rules.specs.Areas.{byte, bits, packet, payload, packed, has, without, latchPlace, perPort, Grant, nobody, bestEffort, onTime, early, grantCode, noPacket, answersArea}
@@ -95,32 +95,18 @@ unfoldable pub toServe : Option Held → ℕ → Option Packet
 toServe none p = none
 toServe (some x) p = cond (has (x .left) p) (some (x .packet)) none
 
-unfoldable pub filter : (Packet → Bool) → Option Packet → Option Packet
-filter t none = none
-filter t (some x) = cond (t x) (some x) none
+-- What the comparator sees of a packet at the clock T: on-time packets go by their deadlines, early ones by their times.
+abbrev pub packetKey : ℤ → Packet → Key ℤ
+packetKey T x = record { early = ltZ T (x .time); key = cond (ltZ T (x .time)) (x .time) (x .deadline) }
 
--- From the least on time, best-effort's wait, the least early packet, the clock and the horizon.
-unfoldable pub granted : Option (ℕ × Packet) → Bool → Option (ℕ × Packet) → ℤ → ℕ → Grant (ℕ × Packet)
-granted (some w) b e T h = onTime w
-granted none true e T h = bestEffort
-granted none false none T h = nobody
-granted none false (some w) T h = cond (leZ (w .1 .time -ℤ T) (pos h)) (early w) nobody
+-- From the winner, best-effort's wait, the clock and the horizon.
+unfoldable pub granted : Option (ℕ × Packet) → Bool → ℤ → ℕ → Grant (ℕ × Packet)
+granted none b T h = cond b bestEffort nobody
+granted (some w) b T h = cond (ltZ T (w .1 .time)) (cond b bestEffort (cond (leZ (w .1 .time -ℤ T) (pos h)) (early w) nobody)) (onTime w)
 
--- On-time packets go by their deadlines, early ones by their times.
-abbrev pub byDeadline : Order Packet
-byDeadline = by (λ x. x .deadline) ltZ
-
-abbrev pub byTime : Order Packet
-byTime = by (λ x. x .time) ltZ
-
+-- The least by the comparator wins, equal keys go to the lower place.
 unfoldable pub grant : Router → ℕ → ℕ → Grant (ℕ × Packet)
-grant r b p =
-    let T = r .clock in
-    granted
-    (least byDeadline (λ i. filter (λ x. leZ (x .time) T) (toServe (r .place i) p)) 256)
-    (has b p)
-    (least byTime (λ i. filter (λ x. ltZ T (x .time)) (toServe (r .place i) p)) 256)
-    T (r .horizon p)
+grant r b p = granted (least (by (packetKey (r .clock)) (comparator ltZ)) (λ i. toServe (r .place i) p) 256) (has b p) (r .clock) (r .horizon p)
 
 unfoldable pub lose : ℕ → Option Held → Option Held
 lose p none = none
