@@ -1,10 +1,11 @@
 -- Calls and replies in few words, for the table and the runs. Assumes nothing.
-use Prim.Native.Nat.{ℕ}
+use Prim.Native.Nat.{ℕ, _+_, _-_}
 use mathlib.Core.List.{List, _∷_, _++_}
 use lib.ListN.{replicate, getD}
 use lib.IntN.{ℤ, pos}
+use Rattle.rules.specs.Indices.{topFirst}
 use Rattle.rules.specs.Areas.{Reply, packed}
-use Rattle.rules.specs.Whole.{TickCall, rising}
+use Rattle.rules.specs.Whole.{TickCall}
 use Rattle.rules.specs.Calls.{Call, control, tick}
 
 -- Connection i gets its outgoing identifier, d and mask.
@@ -13,7 +14,7 @@ connect i o d m ks = control 0 o ∷ control 1 d ∷ control 2 m ∷ control 3 i
 
 -- A packet with identifier i, the byte v for its time, and data k, k + 1, ..
 abbrev pub packetWith : ℕ → ℕ → ℕ → List ℕ
-packetWith k i v = packed 1 i v (rising k 18)
+packetWith k i v = packed 1 i v (topFirst (λ j. k + 17 - j) 18)
 
 -- What five ports have, one after the other.
 abbrev pub five : List ℕ → List ℕ → List ℕ → List ℕ → List ℕ → List ℕ

@@ -20,7 +20,7 @@ use Rattle.rules.specs.Questions as Entry
 use Rattle.rules.specs.Questions.{sound, controlRefusal, tickRefusal, fresh, stack}
 use Rattle.rules.specs.Tick as Tick
 use Rattle.rules.specs.Tick.{Outcome}
-use Rattle.rules.specs.Whole.{Held, Router, TickCall, start, rising, written as wholeWritten, ticked, isHeld}
+use Rattle.rules.specs.Whole.{Held, Router, TickCall, start, written as wholeWritten, ticked, isHeld}
 use Rattle.rules.proofs.BoardLaws.{Laws, freshField}
 use Rattle.rules.proofs.Booleans.{asked-passed, none-some}
 use Rattle.rules.proofs.IndexLaws.{all-at}
@@ -29,26 +29,17 @@ use Rattle.rules.proofs.Runs.{written-good, next-good, input-of, Tickin
 use Rattle.rules.proofs.RunPrompt.{accounts}
 use Rattle.rules.proofs.TimeLaws.{cut-pos, half-pos}
 use Rattle.rules.proofs.StateLaws.{topFirst-same}
+use Rattle.rules.proofs.Soundness.{at-elem}
 use Rattle.rules.proofs.Relation.{shown, on-settings, SlotShows, Rel, rel-free, with-state}
 use Rattle.rules.proofs.Refine.{rel-sound, rel-full, tick-rel, reply-same, sends-same}
 use Rattle.rules.proofs.RefineControl.{written-rel}
 
 -- ---- the router at its start is good
 
--- By induction over the list.
-elem-rising : (i k n : ℕ) → elem i (rising k n) ≡ true → i < k + n
-unfolding elem rising
-elem-rising i k zero e = absurd (true≢false (sym e))
-elem-rising i k (suc n) e = go (eqb i k) refl e (elem-rising i (suc k) n)
-  where
-    go : (t : Bool) → eqb i k ≡ t → (t || elem i (rising (suc k) n)) ≡ true → (elem i (rising (suc k) n) ≡ true → i < suc k + n) → i < k + suc n
-    go true q e f = let z = eqb-true i k q in omega arith
-    go false q e f = let z = f e in omega arith
-
 -- By computed tests: every place is free, once, and none is held.
-start-kept : Kept (λ i. none) (rising 0 256)
-unfolding all distinct elem rising stored count counted isHeld
-start-kept = record { once = refl; places = λ i e. let h = elem-rising i 0 256 e in omega arith; idle = λ i l. all-at (λ i. elem i (rising 0 256)) 256 i refl l; all = refl }
+start-kept : Kept (λ i. none) (topFirst (λ i. 255 - i) 256)
+unfolding all distinct elem topFirst stored count counted isHeld
+start-kept = record { once = refl; places = λ i e. let (k, h, q) = at-elem (λ i. 255 - i) i 256 e in omega arith; idle = λ i l. all-at (λ i. elem i (topFirst (λ i. 255 - i) 256)) 256 i refl l; all = refl }
 
 -- Nothing is held, all places are free, and every setting is 0.
 pub start-good : (c t : ℕ) → Good c (start t)
@@ -63,11 +54,6 @@ start-good c t = record {
 start-empty : (t i : ℕ) → start t .place i ≡ none
 unfolding start
 start-empty t i = refl
-
--- Computed: the fresh stack is the list of free places.
-top-first : topFirst (λ i. 255 - i) 256 ≡ rising 0 256
-unfolding topFirst rising
-top-first = refl
 
 module _ (B : Board) (L : Laws B) where
   open Board B using (clockBytes as c, stateLength, get, put, freshState)
@@ -84,8 +70,7 @@ module _ (B : Board) (L : Laws B) where
     place = λ i l. L .get-fresh t (Mask, i) l;
     stack =
         ap (topFirst (λ i. get (freshState t) (Idle, i))) (L .get-fresh t free (omega arith))
-        ∙ topFirst-same (λ i. get (freshState t) (Idle, i)) (λ i. 255 - i) 256 (λ i l. L .get-fresh t (Idle, i) l)
-        ∙ top-first;
+        ∙ topFirst-same (λ i. get (freshState t) (Idle, i)) (λ i. 255 - i) 256 (λ i l. L .get-fresh t (Idle, i) l);
   }
 
   -- ---- one call

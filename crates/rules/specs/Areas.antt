@@ -107,10 +107,8 @@ perPort f = portsBelow f 5
 
 -- Who has a port in a tick: a packet on time or early, best-effort, or nobody; and its code in the answers.
 pub data Grant (A : Type 0) : Type 0 where
-  nobody : Grant A
-  bestEffort : Grant A
-  onTime : A → Grant A
-  early : A → Grant A
+  nobody bestEffort : Grant A
+  onTime early : A → Grant A
 
 unfoldable pub grantCode : {A : Type 0} → Grant A → ℕ
 grantCode nobody = 0

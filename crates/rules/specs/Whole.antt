@@ -1,5 +1,5 @@
 -- The router that never turns over (document 01): its times are whole numbers, and it sees no byte of state or memory. Assumes nothing.
-use Prim.Native.Nat.{ℕ, zero, suc}
+use Prim.Native.Nat.{ℕ, zero, suc, _-_}
 use mathlib.Core.Bool.{Bool, true, false, cond, not, _&&_, _||_}
 use mathlib.Core.List.{List, [], _∷_, _++_}
 use mathlib.Core.Option.{Option, none, some}
@@ -9,7 +9,7 @@ use lib.IntN.{ℤ, pos, _+ℤ_, _-ℤ_, sucℤ}
 use lib.Signed.{ltZ, leZ}
 use Rattle.rules.specs.Clock.{cut}
 use Rattle.rules.specs.Order.{by, Key, comparator}
-use Rattle.rules.specs.Indices.{least}
+use Rattle.rules.specs.Indices.{least, topFirst}
 use Rattle.rules.specs.Asked.{asked, arrivalQuestions}
 use Rattle.rules.specs.Areas.{byte, bits, packet, payload, packed, has, without, latchPlace, perPort, Grant, nobody, bestEffort, onTime, early, grantCode, noPacket, answersArea}
 
@@ -51,14 +51,9 @@ pub record TickCall : Type 0 where
 unfoldable pub put : {A : Type 0} → (ℕ → A) → ℕ → A → ℕ → A
 put f i v j = cond (eqb i j) v (f j)
 
--- k, k + 1, .., k + n - 1
-unfoldable pub rising : ℕ → ℕ → List ℕ
-rising k zero = []
-rising k (suc n) = let t = rising (suc k) n in k ∷ t
-
--- At first the clock is the fresh clock byte.
+-- At first the clock is the fresh clock byte, and the places are free, the lowest first.
 unfoldable pub start : ℕ → Router
-start t = record { clock = pos t; horizon = λ p. 0; latch = λ r. 0; entry = λ i. record { identifier = 0; delay = 0; mask = 0 }; place = λ i. none; free = rising 0 256 }
+start t = record { clock = pos t; horizon = λ p. 0; latch = λ r. 0; entry = λ i. record { identifier = 0; delay = 0; mask = 0 }; place = λ i. none; free = topFirst (λ i. 255 - i) 256 }
 
 abbrev pub withPlaces : Router → (ℕ → Option Held) → List ℕ → Router
 withPlaces r f l = record { clock = r .clock; horizon = r .horizon; latch = r .latch; entry = r .entry; place = f; free = l }
