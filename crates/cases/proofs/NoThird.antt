@@ -10,7 +10,7 @@ use native.Mathlib.Omega.{arith}
 use lib.Dec.{T}
 use lib.IntN.{ℤ, sucℤ}
 use lib.Signed.{leZ}
-use Rattle.rules.specs.Indices.{counted}
+use Rattle.rules.specs.Order.{counted}
 use Rattle.rules.specs.Whole.{Router, Packet, start}
 use Rattle.rules.specs.Calls.{routerAfter}
 use Rattle.rules.specs.Account.{NotedTick, isSent, times, sentOn, withdrawnOn, leftOn, Permitted, Account}

@@ -9,7 +9,7 @@ use lib.Dec.{ltb, eqb, ltb→lt, eqb→eq}
 use lib.IntN.{pos, negℤ, _-ℤ_}
 use lib.Signed.{leZ, ltZ}
 use Rattle.rules.specs.Clock.{cut}
-use Rattle.rules.specs.Indices.{all}
+use Rattle.rules.specs.Order.{all}
 use Rattle.rules.specs.Areas.{byte, Bytes, bits, half, packet, stamp, has}
 use Rattle.rules.specs.Whole.{Router, TickCall}
 use Rattle.rules.specs.Calls.{Call, control, tick, wholeStep, ByteCall, TrueTime, TrueTimes, Proper}

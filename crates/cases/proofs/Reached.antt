@@ -8,7 +8,7 @@ use lib.ListN.{length}
 use lib.Seq.{take-length}
 use Rattle.rules.specs.Areas as A
 use Rattle.rules.specs.Areas.{Store}
-use Rattle.rules.specs.Board8.{board8}
+use Rattle.rules.specs.Board.{board8}
 use Rattle.rules.specs.Questions.{fresh}
 use Rattle.rules.specs.Tick as Bytes
 use Rattle.rules.specs.Whole.{Router, TickCall, start}

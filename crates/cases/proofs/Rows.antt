@@ -11,8 +11,7 @@ use lib.Signed.{ltZ}
 use borrow.Author.Tests.{ltb-true, eqb-true}
 use Rattle.rules.specs.Clock.{cut, minus, offset}
 use Rattle.rules.specs.Areas.{Store, bits, packet, has}
-use Rattle.rules.specs.Board.{Mask, clock}
-use Rattle.rules.specs.Board8.{board8}
+use Rattle.rules.specs.Board.{Mask, clock, board8}
 use Rattle.rules.specs.Tick as Bytes
 use Rattle.rules.specs.Whole.{Router, Held, start, packetBytes}
 use Rattle.rules.specs.Calls.{refusal, wholeStep, Proper}

@@ -8,8 +8,7 @@ use lib.IntN.{ℤ, pos, _-ℤ_}
 use lib.Signed.{ltZ}
 use Rattle.rules.specs.Areas.{Store, Reply, packet, has}
 use Rattle.rules.specs.Order.{Key}
-use Rattle.rules.specs.Board.{Mask, clock}
-use Rattle.rules.specs.Board8.{board8}
+use Rattle.rules.specs.Board.{Mask, clock, board8}
 use Rattle.rules.specs.Tick as Bytes
 use Rattle.rules.specs.Tick.{Outcome}
 use Rattle.rules.specs.Questions as Entry

@@ -5,8 +5,7 @@ use mathlib.Core.List.{List, [], _∷_}
 use lib.ListN.{replicate}
 use lib.IntN.{pos, negsuc}
 use Rattle.rules.specs.Areas.{Reply, numberReply, noPacket}
-use Rattle.rules.specs.Board.{free}
-use Rattle.rules.specs.Board8.{board8}
+use Rattle.rules.specs.Board.{free, board8}
 use Rattle.rules.specs.Questions.{fresh}
 use Rattle.rules.specs.Whole.{start}
 use Rattle.rules.specs.Calls.{Call, control, wholeReplies}

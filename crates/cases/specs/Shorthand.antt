@@ -3,7 +3,7 @@ use Prim.Native.Nat.{ℕ, _+_, _-_}
 use mathlib.Core.List.{List, _∷_, _++_}
 use lib.ListN.{replicate, getD}
 use lib.IntN.{ℤ, pos}
-use Rattle.rules.specs.Indices.{topFirst}
+use Rattle.rules.specs.Order.{topFirst}
 use Rattle.rules.specs.Areas.{Reply, packed}
 use Rattle.rules.specs.Whole.{TickCall}
 use Rattle.rules.specs.Calls.{Call, control, tick}

@@ -5,9 +5,9 @@ use mathlib.Core.Bool.{true, false}
 use mathlib.Core.List.{List, [], _∷_, _++_, List·Memᴰ}
 use lib.ListN.{replicate}
 use lib.IntN.{ℤ, pos}
-use Rattle.rules.specs.Indices.{counted}
+use Rattle.rules.specs.Order.{counted}
 use Rattle.rules.specs.Areas.{Reply, noPacket, packet, has}
-use Rattle.rules.specs.Board8.{board8}
+use Rattle.rules.specs.Board.{board8}
 use Rattle.rules.specs.Questions.{fresh}
 use Rattle.rules.specs.Whole.{Packet, start, packetBytes}
 use Rattle.rules.specs.Calls.{Call, control, Proper}

@@ -4,7 +4,7 @@ use mathlib.Core.Path.{_≡_}
 use mathlib.Core.List.{List}
 use lib.ListN.{length, getD}
 use Rattle.rules.specs.Areas as Areas
-use Rattle.rules.specs.Board8.{board8}
+use Rattle.rules.specs.Board.{board8}
 use Rattle.rules.specs.Tick.{grant}
 use Rattle.choose.specs.declared.Grant.{Grant}
 use Rattle.choose.specs.declared.Grant.the-variants.{Nobody, BestEffort, OnTime, Early}

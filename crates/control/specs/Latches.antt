@@ -3,8 +3,7 @@ use Prim.Native.Nat.{ℕ}
 use mathlib.Core.Bool.{cond}
 use mathlib.Core.List.{List}
 use lib.Dec.{eqb}
-use Rattle.rules.specs.Board.{Latch}
-use Rattle.rules.specs.Board8.{board8}
+use Rattle.rules.specs.Board.{Latch, board8}
 use Rattle.control.specs.declared.Latch.{Latch}
 
 -- The latch that a state holds.

@@ -2,8 +2,7 @@
 ghost use mathlib.Core.Path.{_≡_};
 ghost use Prim.Native.Nat.{_≤_};
 ghost use Rattle.rules.specs.Areas.{fits, latchPlace};
-ghost use Rattle.rules.specs.Board.{Latch};
-ghost use Rattle.rules.specs.Board8.{board8};
+ghost use Rattle.rules.specs.Board.{Latch, board8};
 ghost use Rattle.rules.specs.Control.{commitEntry, commitHorizon, written};
 ghost use Rattle.control.specs.Latches.{latchOf, latchWith, latchByte};
 use layout::ConnectionId;

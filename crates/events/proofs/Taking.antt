@@ -8,7 +8,7 @@ use lib.ListN.{length, replicate, drop-of-length-le}
 use lib.Seq.{sets, sets-eq}
 use lib.Dec.{eqb}
 use Rattle.rules.specs.Areas.{Store, numberReply, memoryLength, arrivalsLength, outgoingLength, answersLength, byte, areasFull}
-use Rattle.rules.specs.Board8.{board8}
+use Rattle.rules.specs.Board.{board8}
 use Rattle.rules.specs.Tick.{Outcome}
 use Rattle.rules.specs.Tick as Tick
 use Rattle.rules.specs.Questions.{full, fresh, makeFresh, tick, tickRefusal}

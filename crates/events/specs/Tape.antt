@@ -6,8 +6,7 @@ use lib.ListN.{drop, set, replicate}
 use lib.Seq.{sets}
 use lib.Dec.{eqb}
 use Rattle.rules.specs.Areas.{Store, packetLength, arrivalsLength, outgoingLength, answersLength, byte}
-use Rattle.rules.specs.Board.{clock}
-use Rattle.rules.specs.Board8.{board8}
+use Rattle.rules.specs.Board.{clock, board8}
 use Rattle.rules.specs.Tick.{Outcome}
 use Rattle.rules.specs.Questions.{fresh, controlWrite, tick}
 use Rattle.records.specs.Records.{controlKind, arrivalKind, recordsIn, recordAt, recordRefusal}

@@ -2,8 +2,8 @@
 use Prim.Native.Nat.{ℕ}
 use mathlib.Core.Path.{_≡_, refl}
 use mathlib.Core.List.{_∷_}
-use Rattle.rules.specs.Indices.{topFirst}
-use Rattle.rules.specs.Board8.{fresh8, board8}
+use Rattle.rules.specs.Order.{topFirst}
+use Rattle.rules.specs.Board.{fresh8, board8}
 use Rattle.layout.proofs.FreshState.{fresh-cons}
 use Rattle.fresh.specs.Slots.{emptied}
 

@@ -2,8 +2,7 @@
 use Prim.Native.Nat.{ℕ, zero, suc}
 use mathlib.Core.List.{List}
 use lib.Seq.{sets}
-use Rattle.rules.specs.Board.{Time}
-use Rattle.rules.specs.Board8.{table8}
+use Rattle.rules.specs.Board.{Time, table8}
 use Rattle.layout.specs.Slots.{empty}
 
 -- The state with empty slots in the place of those below k.

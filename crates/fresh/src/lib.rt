@@ -2,7 +2,7 @@
 ghost use mathlib.Core.Path.{_≡_};
 ghost use lib.ListN.{length, replicate};
 ghost use Rattle.rules.specs.Areas.{numberReply};
-ghost use Rattle.rules.specs.Board8.{board8};
+ghost use Rattle.rules.specs.Board.{board8};
 ghost use Rattle.rules.specs.Tick.{Outcome};
 ghost use Rattle.rules.specs.Questions.{makeFresh};
 ghost use Rattle.passes.specs.Stores.{store};

@@ -5,8 +5,8 @@ use mathlib.Core.List.{List, _∷_}
 use native.Mathlib.Omega.{arith}
 use lib.ListN.{set, replicate}
 use Rattle.rules.specs.Areas.{digits}
-use Rattle.rules.specs.Board8.{fresh8, board8}
-use Rattle.rules.specs.Indices.{topFirst}
+use Rattle.rules.specs.Board.{fresh8, board8}
+use Rattle.rules.specs.Order.{topFirst}
 
 -- Entry i of the stack holds 255 - i, for the entries below k.
 unfoldable pub stacked : ℕ → List ℕ → List ℕ

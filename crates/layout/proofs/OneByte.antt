@@ -1,6 +1,6 @@
 -- The code's fields have one byte each. Assumes nothing.
 use mathlib.Core.Path.{_≡_, refl}
-use Rattle.rules.specs.Board8.{table8}
+use Rattle.rules.specs.Board.{table8}
 use Rattle.layout.specs.declared.Field.{Field}
 use Rattle.layout.specs.declared.Field.the-variants.{Clock, Horizon, Latch, Idle, Time, Deadline, Mask, Outgoing, Delay, Routes}
 use Rattle.layout.specs.Fields.{fieldOf}

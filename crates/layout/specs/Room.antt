@@ -5,7 +5,7 @@ use mathlib.Core.Bool.{Bool}
 use mathlib.Core.List.{List}
 use lib.ListN.{length}
 use Rattle.rules.specs.Areas.{memoryLength, arrivalsLength, outgoingLength, answersLength}
-use Rattle.rules.specs.Board8.{board8}
+use Rattle.rules.specs.Board.{board8}
 use Rattle.rules.specs.Questions as Questions
 
 -- Slot i holds a packet.

@@ -12,10 +12,9 @@ use lib.IntN.{pos, negℤ}
 use lib.Signed.{leZ}
 use borrow.Author.Tests.{eqb-false}
 use Rattle.rules.specs.Clock.{plus, offset}
-use Rattle.rules.specs.Areas.{Store, packetLength, byte, bits, packet, stamp, payload, packed, has, portsBelow, perPort}
+use Rattle.rules.specs.Areas.{Store, packetLength, byte, bits, packet, stamp, payload, packed, has, portsBelow, perPort, asked, arrivalQuestions, arrivalAnswer}
 use Rattle.rules.specs.Board.{Board, Idle, Time, Deadline, Mask, Outgoing, Delay, Routes, clock, free}
 use Rattle.rules.specs.Questions.{used}
-use Rattle.rules.specs.Asked.{asked, arrivalQuestions, arrivalAnswer}
 use Rattle.rules.specs.Tick.{arrivalRefusal, arrival, placed, admitted, arrived}
 use Rattle.rules.proofs.AreaLaws.{filled, filled-next, filled-all}
 use Rattle.rules.proofs.BoardLaws.{Laws}

@@ -3,7 +3,7 @@ use Prim.Native.Nat.{ℕ, zero, suc, _+_, _-_, _<_, _≤_}
 use mathlib.Core.Path.{_≡_, ap}
 use mathlib.Core.Bool.{Bool, true, false, cond, _&&_}
 use native.Mathlib.Omega.{arith}
-use Rattle.rules.specs.Indices.{count, counted}
+use Rattle.rules.specs.Order.{count, counted}
 
 -- By one index after the other.
 count-mono : (f : ℕ → Bool) (i d : ℕ) → count i f ≤ count (i + d) f

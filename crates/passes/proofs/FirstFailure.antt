@@ -5,7 +5,7 @@ use mathlib.Core.Bool.{Bool, true, false, not, _&&_, true≢false}
 use native.Mathlib.Numerals.{add-one}
 use native.Mathlib.Omega.{arith}
 use borrow.Author.Tests.{not-true, not-false}
-use Rattle.rules.specs.Indices.{all}
+use Rattle.rules.specs.Order.{all}
 use Rattle.rules.proofs.IndexLaws.{all-at}
 
 -- ---- a loop that leaves at the first index whose test, t, fails

@@ -7,7 +7,7 @@ use mathlib.Core.List.{List}
 use native.Mathlib.Omega.{arith}
 use lib.ListN.{length}
 use lib.Dec.{eqb}
-use Rattle.rules.specs.Indices.{count, counted}
+use Rattle.rules.specs.Order.{count, counted}
 use Rattle.rules.specs.Board.{Board, Free, Idle, Mask, Field, free}
 use Rattle.rules.specs.Tick.{giveBack}
 use Rattle.rules.proofs.BoardLaws.{Laws, Valid, sameKind}

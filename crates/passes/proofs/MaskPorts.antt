@@ -14,7 +14,7 @@ use lib.Dec.{eqb, ltb}
 use lib.ListN.{length, getD, set}
 use lib.Seq.{getD-set-same, getD-set-other, ext-getD}
 use borrow.Author.Tests.{ne-eqb, eqb-true, ltb-true}
-use Rattle.rules.specs.Indices.{all}
+use Rattle.rules.specs.Order.{all}
 use Rattle.rules.specs.Areas.{has, without, portsBelow, perPort}
 use Rattle.rules.proofs.AreaLaws.{length-portsBelow}
 use Rattle.rules.proofs.Booleans.{and-left, and-right}

@@ -13,10 +13,9 @@ use lib.Signed.{leZ}
 use lib.ListN.{replicate, getD-replicate}
 use borrow.Author.Tests.{lt-ltb, le-ltb, lt-leb, le-leb}
 use Rattle.rules.specs.Clock.{minus, offset}
-use Rattle.rules.specs.Indices.{better, least}
+use Rattle.rules.specs.Order.{better, least, by, then, Key, onTimeFirst, comparator}
 use Rattle.rules.specs.Areas.{bits, has, nobody, bestEffort, onTime, early}
 use Rattle.rules.specs.Board.{Board, Horizon, Time, Deadline, Mask, clock}
-use Rattle.rules.specs.Order.{by, then, Key, onTimeFirst, comparator}
 use Rattle.rules.specs.Tick.{granted, slotKey, candidate, grant}
 use Rattle.rules.proofs.Booleans.{some-inj, none-some}
 use Rattle.rules.proofs.ClockLaws.{minus-lt}

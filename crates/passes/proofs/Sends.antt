@@ -14,8 +14,7 @@ use lib.Seq.{getD-set-same, getD-set-other, set-out}
 use lib.Dec.{leb, ltb}
 use Rattle.rules.specs.Areas.{has, without, perPort, Grant, nobody, bestEffort, onTime, early}
 use Rattle.rules.specs.Board.{Board, Horizon, Time, Deadline, Mask, clock}
-use Rattle.rules.specs.Indices.{least, better}
-use Rattle.rules.specs.Order.{Order, Key, comparator}
+use Rattle.rules.specs.Order.{least, better, Order, Key, comparator}
 use Rattle.rules.specs.Tick.{granted, slotKey, candidate, grant, sent, served}
 use Rattle.rules.proofs.AreaLaws.{portsBelow-same}
 use Rattle.rules.proofs.BoardLaws.{Laws}

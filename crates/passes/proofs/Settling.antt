@@ -12,7 +12,7 @@ use lib.Dec.{eqb}
 use borrow.Author.Tests.{eq-eqb, ne-eqb}
 use Rattle.rules.specs.Areas.{has}
 use Rattle.rules.specs.Board.{Board, Deadline, Mask, clock, free}
-use Rattle.rules.specs.Indices.{count, counted}
+use Rattle.rules.specs.Order.{count, counted}
 use Rattle.rules.specs.Questions.{occupied, used}
 use Rattle.rules.specs.Tick.{isDue, giveBack}
 use Rattle.rules.proofs.BoardLaws.{Laws}

@@ -10,7 +10,7 @@ use lib.ListN.{getD, set, replicate, length-set, length-replicate, getD-replicat
 use lib.Seq.{getD-set-same, getD-set-other}
 use lib.Dec.{leb, eqb}
 use borrow.Author.Tests.{eq-eqb, ne-eqb}
-use Rattle.rules.specs.Indices.{all, topFirst}
+use Rattle.rules.specs.Order.{all, topFirst}
 use Rattle.rules.specs.Areas.{elem, distinct}
 use Rattle.rules.specs.Board.{Board, Idle, free}
 use Rattle.rules.specs.Questions.{stack, listed, stackSound}

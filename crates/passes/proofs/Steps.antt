@@ -12,7 +12,7 @@ use lib.Dec.{eqb, ltb}
 use borrow.Author.Tests.{lt-ltb, le-ltb}
 use Rattle.rules.specs.Areas.{has, perPort, Grant}
 use Rattle.rules.specs.Board.{Board, Deadline, Mask, clock, free}
-use Rattle.rules.specs.Indices.{count}
+use Rattle.rules.specs.Order.{count}
 use Rattle.rules.specs.Questions.{occupied, used}
 use Rattle.rules.specs.Tick.{isDue, withdrawn, withdrawals, returned}
 use Rattle.rules.proofs.BoardLaws.{Laws}

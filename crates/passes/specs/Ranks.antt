@@ -4,10 +4,9 @@ use mathlib.Core.Bool.{Bool, cond}
 use mathlib.Core.List.{List}
 use mathlib.Core.Option.{Option, none, some}
 use lib.Dec.{ltb}
-use Rattle.rules.specs.Indices.{least}
+use Rattle.rules.specs.Order.{least, Key, comparator}
 use Rattle.rules.specs.Areas.{bits, early}
 use Rattle.rules.specs.Board.{Board}
-use Rattle.rules.specs.Order.{Key, comparator}
 use Rattle.rules.specs.Tick.{slotKey, candidate}
 
 -- The lesser of two.

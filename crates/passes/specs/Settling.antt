@@ -4,7 +4,7 @@ use mathlib.Core.Bool.{Bool, cond, _&&_}
 use mathlib.Core.List.{List}
 use lib.ListN.{getD}
 use lib.Dec.{eqb}
-use Rattle.rules.specs.Indices.{count, counted}
+use Rattle.rules.specs.Order.{count, counted}
 use Rattle.rules.specs.Areas.{has}
 use Rattle.rules.specs.Board.{Board, Deadline, Mask}
 use Rattle.rules.specs.Questions.{occupied}

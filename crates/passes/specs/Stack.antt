@@ -4,7 +4,7 @@ use mathlib.Core.Path.{_≡_}
 use mathlib.Core.Bool.{Bool, false}
 use mathlib.Core.List.{List}
 use lib.ListN.{length, getD}
-use Rattle.rules.specs.Indices.{topFirst}
+use Rattle.rules.specs.Order.{topFirst}
 use Rattle.rules.specs.Areas.{elem, distinct}
 use Rattle.rules.specs.Board.{Board, Idle}
 

@@ -6,9 +6,8 @@ use mathlib.Core.List.{List, [], _∷_}
 use lib.ListN.{length}
 use lib.Dec.{eqb}
 use borrow.Author.Tests.{eqb-true, not-true, not-false}
-use Rattle.rules.specs.Areas.{Store, memoryLength, arrivalsLength, outgoingLength, answersLength, areasFull}
-use Rattle.rules.specs.Asked.{Question, asked}
-use Rattle.rules.specs.Board8.{board8}
+use Rattle.rules.specs.Areas.{Store, memoryLength, arrivalsLength, outgoingLength, answersLength, areasFull, Question, asked}
+use Rattle.rules.specs.Board.{board8}
 use Rattle.rules.specs.Questions.{full}
 use Rattle.layout.specs.Room.{Room, Lent}
 use Rattle.rules.proofs.Booleans.{and-left, and-right}

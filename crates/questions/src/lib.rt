@@ -1,9 +1,8 @@
 // The questions of a control write and of a tick, in their order.
 ghost use mathlib.Core.Path.{_≡_};
 ghost use mathlib.Core.Bool.{_&&_};
-ghost use Rattle.rules.specs.Areas.{areasFull};
-ghost use Rattle.rules.specs.Asked.{asked, controlQuestions, tickQuestions};
-ghost use Rattle.rules.specs.Board8.{board8};
+ghost use Rattle.rules.specs.Areas.{areasFull, asked, controlQuestions, tickQuestions};
+ghost use Rattle.rules.specs.Board.{board8};
 ghost use Rattle.rules.specs.Questions.{full, controlRefusal, tickRefusal};
 ghost use Rattle.layout.specs.Room.{Lent};
 ghost use Rattle.layout.specs.Numbers.{numberOf};

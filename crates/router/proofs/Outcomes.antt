@@ -6,7 +6,7 @@ use mathlib.Core.Logic.{_≢_}
 use lib.Dec.{leb}
 use borrow.Author.Tests.{ne-eqb, leb-true}
 use Rattle.rules.specs.Areas.{Store, numberReply}
-use Rattle.rules.specs.Board8.{board8}
+use Rattle.rules.specs.Board.{board8}
 use Rattle.rules.specs.Control.{written}
 use Rattle.rules.specs.Tick.{Outcome, ticked}
 use Rattle.rules.specs.Questions.{full, sound, controlRefusal, controlWrite, tickRefusal, tick}

@@ -2,7 +2,7 @@
 ghost use mathlib.Core.Path.{_≡_};
 ghost use lib.ListN.{take, drop};
 ghost use Rattle.rules.specs.Areas.{numberReply, display};
-ghost use Rattle.rules.specs.Board8.{board8};
+ghost use Rattle.rules.specs.Board.{board8};
 ghost use Rattle.rules.specs.Tick.{Outcome};
 ghost use Rattle.rules.specs.Questions.{makeFresh, controlWrite, tick};
 ghost use Rattle.display.specs.Start.{displayStart};

@@ -11,7 +11,7 @@ use lib.IntN.{ℤ}
 use borrow.Author.Tests.{eq-eqb, ne-eqb, eqb-true, le-ltb}
 use Rattle.rules.specs.Account.{samePacket, isSent, times, isLeft, leftOn, Kept}
 use Rattle.rules.specs.Areas.{packet, has, Grant, nobody, bestEffort, onTime, early}
-use Rattle.rules.specs.Indices.{count, counted}
+use Rattle.rules.specs.Order.{count, counted}
 use Rattle.rules.specs.Whole.{Packet, Held, Router, TickCall, Arrival, absent, refused, accepted, placed, admitted, toServe, lose, sent, served, isDue, due, withdrawn, remaining, emptied, meets, arrived}
 use Rattle.rules.proofs.IndexLaws.{count-only, counted-false}
 use Rattle.rules.proofs.Masks.{has-without-same, has-without-other, has-zero}

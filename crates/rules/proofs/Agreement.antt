@@ -9,13 +9,12 @@ use lib.ListN.{take, length-replicate}
 use lib.Dec.{leb, eqb}
 use borrow.Author.Tests.{eqb-true, leb-true}
 use Rattle.rules.specs.Account.{NotedTick, Kept, stored}
-use Rattle.rules.specs.Areas.{Store, Reply, numberReply, bits, fits, elem, distinct}
+use Rattle.rules.specs.Areas.{Store, Reply, numberReply, bits, fits, elem, distinct, asked}
 use Rattle.rules.specs.Board.{Board, Horizon, Latch, Idle, Mask, Outgoing, Delay, Routes, clock, free}
 use Rattle.rules.specs.Calls.{Step, Call, control, tick, refusal, refuse, accept, wholeStep, routerAfter, wholeReplies, ByteCall, TrueTimes, Proper}
-use Rattle.rules.specs.Asked.{asked}
 use Rattle.rules.specs.Control.{written}
 use Rattle.rules.specs.Demand3.{noted, byteStep, storeAfter, byteReplies, history, PlaceShown, Shown, AfterCalls, Holds}
-use Rattle.rules.specs.Indices.{all, count, counted, topFirst}
+use Rattle.rules.specs.Order.{all, count, counted, topFirst}
 use Rattle.rules.specs.Questions as Entry
 use Rattle.rules.specs.Questions.{sound, controlRefusal, tickRefusal, fresh, stack}
 use Rattle.rules.specs.Tick as Tick

@@ -7,9 +7,8 @@ use native.Mathlib.Omega.{arith}
 use lib.ListN.{length}
 use lib.Dec.{ltb, eqb}
 use Rattle.rules.specs.Areas.{value, digits}
-use Rattle.rules.specs.Board.{Horizon, Latch, Idle, Field, clock, free, getAt}
-use Rattle.rules.specs.Board8.{table8, fresh8, board8}
-use Rattle.rules.specs.Indices.{all, topFirst}
+use Rattle.rules.specs.Board.{Horizon, Latch, Idle, Field, clock, free, getAt, table8, fresh8, board8}
+use Rattle.rules.specs.Order.{all, topFirst}
 use Rattle.rules.proofs.BoardLaws.{Laws, freshField, width}
 use Rattle.rules.proofs.TableLaws.{kindOf, each, owned, lawful-table}
 

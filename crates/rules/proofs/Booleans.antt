@@ -6,7 +6,7 @@ use mathlib.Core.List.{List, [], _∷_}
 use mathlib.Core.Option.{none, some}
 use native.Mathlib.Omega.{arith}
 use lib.Dec.{T}
-use Rattle.rules.specs.Asked.{Question, asked}
+use Rattle.rules.specs.Areas.{Question, asked}
 
 -- ---- a test and its proposition
 

@@ -8,8 +8,7 @@ use lib.Dec.{T}
 use lib.IntN.{pos, _-ℤ_}
 use lib.Signed.{leZ, ltZ}
 use Rattle.rules.specs.Areas.{has, Grant, nobody, bestEffort, onTime, early}
-use Rattle.rules.specs.Indices.{least}
-use Rattle.rules.specs.Order.{Order, by, then, onTimeFirst, comparator}
+use Rattle.rules.specs.Order.{least, Order, by, then, onTimeFirst, comparator}
 use Rattle.rules.specs.Whole.{Packet, Held, Router, toServe, packetKey, granted, grant}
 use Rattle.rules.proofs.Booleans.{some-inj, none-some, is-true, true-is}
 use Rattle.rules.proofs.IndexLaws.{least-in}

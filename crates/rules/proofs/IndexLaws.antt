@@ -8,7 +8,7 @@ use native.Mathlib.Decide.{decLt}
 use native.Mathlib.Omega.{arith}
 use lib.Dec.{eqb}
 use borrow.Author.Tests.{eq-eqb, ne-eqb}
-use Rattle.rules.specs.Indices.{better, least, all, count, counted}
+use Rattle.rules.specs.Order.{better, least, all, count, counted}
 use Rattle.rules.proofs.Booleans.{some-inj, none-some}
 
 -- ---- two families of keys in one order have their least at one index

@@ -7,7 +7,7 @@ use native.Mathlib.Omega.{arith}
 use lib.Dec.{leb, ltb, eqb}
 use borrow.Author.Tests.{ne-eqb, leb-true, ltb-true}
 use Rattle.rules.specs.Areas.{has, without}
-use Rattle.rules.specs.Indices.{all, count, counted}
+use Rattle.rules.specs.Order.{all, count, counted}
 use Rattle.rules.proofs.Booleans.{and-left, and-right, not-false, beq-eq}
 use Rattle.rules.proofs.IndexLaws.{all-at, count-some}
 

@@ -12,12 +12,11 @@ use lib.IntN.{ℤ, pos, negℤ, _+ℤ_}
 use lib.Signed.{leZ}
 use borrow.Author.Tests.{eq-eqb, ne-eqb}
 use Rattle.rules.specs.Account.{Kept}
-use Rattle.rules.specs.Areas.{byte, bits, packet, stamp, payload, packed, has, Store}
+use Rattle.rules.specs.Areas.{byte, bits, packet, stamp, payload, packed, has, Store, arrivalAnswer}
 use Rattle.rules.specs.Board.{Board, Idle, Time, Deadline, Mask, Outgoing, Delay, Routes, clock, free}
 use Rattle.rules.specs.Clock.{cut, plus, offset}
-use Rattle.rules.specs.Indices.{topFirst}
+use Rattle.rules.specs.Order.{topFirst}
 use Rattle.rules.specs.Questions.{stack}
-use Rattle.rules.specs.Asked.{arrivalAnswer}
 use Rattle.rules.specs.Tick.{arrived}
 use Rattle.rules.specs.Tick as Tick
 use Rattle.rules.specs.Whole.{Held, Router, TickCall, made, withPlaces, placed, admitted, arrivalCode, meets, packetBytes}

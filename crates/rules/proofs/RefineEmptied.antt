@@ -13,7 +13,7 @@ use Rattle.rules.specs.Account.{stored, Kept}
 use Rattle.rules.specs.Areas.{half, packet, has, Store}
 use Rattle.rules.specs.Board.{Board, Kind, Free, Idle, Time, Deadline, Mask, Field, clock, free}
 use Rattle.rules.specs.Demand3.{HeldShown}
-use Rattle.rules.specs.Indices.{count, counted, topFirst}
+use Rattle.rules.specs.Order.{count, counted, topFirst}
 use Rattle.rules.specs.Questions.{stack}
 use Rattle.rules.specs.Tick.{isDue as isDueNow, withdrawn, withdrawals, giveBack, returned}
 use Rattle.rules.specs.Whole.{Held, Router, toServe, isDue, due, remaining, freed, emptied, isHeld}

@@ -14,8 +14,7 @@ use Rattle.rules.specs.Areas.{bits, half, packet, has, without, Store, G
 use Rattle.rules.specs.Board.{Board, Horizon, Idle, Time, Deadline, Mask, clock, free}
 use Rattle.rules.specs.Clock.{cut, minus}
 use Rattle.rules.specs.Demand3.{HeldShown}
-use Rattle.rules.specs.Indices.{least}
-use Rattle.rules.specs.Order.{Order, by, Key, comparator}
+use Rattle.rules.specs.Order.{least, Order, by, Key, comparator}
 use Rattle.rules.specs.Tick.{slotKey, candidate}
 use Rattle.rules.specs.Whole.{Packet, Held, Router, TickCall, withPlaces, toServe, packetKey, lose, packetBytes}
 use Rattle.rules.proofs.BoardLaws.{Laws, sameField}
@@ -115,7 +114,7 @@ module _ (B : Board) (L : Laws B) where
     grant-same b =
         ap (Tick.granted (least (comparator ltb) (candidate B s p) 256) (has b p)) (R .settings .reads (Horizon, p) refl hp)
         ∙ granted-same (w .horizon p) (least (comparator ltb) (candidate B s p) 256) (least before (λ i. toServe (w .place i) p) 256)
-            (least-same (comparator ltb) before IsKey key-order (candidate B s p) (λ i. toServe (w .place i) p) 256 slot-keys) (has b p)
+        (least-same (comparator ltb) before IsKey key-order (candidate B s p) (λ i. toServe (w .place i) p) 256 slot-keys) (has b p)
 
     -- ---- a port is served
 

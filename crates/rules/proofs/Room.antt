@@ -12,7 +12,7 @@ use borrow.Author.Tests.{ne-eqb}
 use Rattle.rules.specs.Areas.{Store, byte, bits, stamp, elem, distinct}
 use Rattle.rules.specs.Board.{Board, Idle, Time, Deadline, Mask, Delay, Routes, free}
 use Rattle.rules.specs.Clock.{plus}
-use Rattle.rules.specs.Indices.{count, counted}
+use Rattle.rules.specs.Order.{count, counted}
 use Rattle.rules.specs.Questions.{stack, stackSound, occupied, used}
 use Rattle.rules.specs.Tick.{placed}
 use Rattle.rules.proofs.Booleans.{and-left, and-right, not-false}

@@ -12,7 +12,7 @@ use lib.Signed.{leZ, ltZ, _≤ℤ_}
 use borrow.Author.Tests.{eq-eqb, eqb-true}
 use Rattle.rules.specs.Account.{NotedTick, samePacket, isSent, times, isLeft, leftOn, sentOn, withdrawnOn, Accepted, Permitted, Genuine}
 use Rattle.rules.specs.Areas.{packet, Grant, nobody, bestEffort, onTime, early}
-use Rattle.rules.specs.Indices.{count, counted}
+use Rattle.rules.specs.Order.{count, counted}
 use Rattle.rules.specs.Whole.{Packet, Held, Router, withPlaces, Arrival, absent, refused, accepted, toServe, grant, isDue, due, withdrawn, meets, ticked, Report, packetBytes, grantBytes}
 use Rattle.rules.proofs.Booleans.{none-some, and-left, and-right, is-true, true-is, false-is}
 use Rattle.rules.proofs.IndexLaws.{count-none, count-only, count-some}

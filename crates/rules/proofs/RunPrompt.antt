@@ -12,9 +12,8 @@ use lib.IntN.{ℤ, sucℤ, pos, _+ℤ_}
 use lib.Signed.{leZ, ltZ, _≤ℤ_}
 use borrow.Author.Tests.{ne-eqb, eq-eqb}
 use Rattle.rules.specs.Account.{NotedTick, samePacket, isSent, times, isLeft, leftOn, sentOn, withdrawnOn, Accepted, Unserved, NoneOnTime, Prompt, answerDue, stored, Stored, Accounts}
-use Rattle.rules.specs.Areas.{byte, packet, has, bestEffort, onTime, early}
-use Rattle.rules.specs.Indices.{count, counted}
-use Rattle.rules.specs.Asked.{asked, arrivalQuestions, arrivalAnswer}
+use Rattle.rules.specs.Areas.{byte, packet, has, bestEffort, onTime, early, asked, arrivalQuestions, arrivalAnswer}
+use Rattle.rules.specs.Order.{count, counted}
 use Rattle.rules.specs.Whole.{Packet, Held, Router, TickCall, Arrival, toServe, meets, arrivalRefusal, arrived, ticked, Report, arrivalCode}
 use Rattle.rules.proofs.Booleans.{is-true, same-test}
 use Rattle.rules.proofs.IndexLaws.{count-none, count-some, count-same, count-two, count-pos, counted-true, counted-false}

@@ -12,8 +12,7 @@ use lib.IntN.{ℤ, sucℤ}
 use lib.Signed.{leZ}
 use borrow.Author.Tests.{eqb-true, leb-true, ltb-true}
 use Rattle.rules.specs.Account.{NotedTick}
-use Rattle.rules.specs.Areas.{Bytes, half, packet, has, fits, areasFull}
-use Rattle.rules.specs.Asked.{tickQuestions}
+use Rattle.rules.specs.Areas.{Bytes, half, packet, has, fits, areasFull, tickQuestions}
 use Rattle.rules.specs.Calls.{tick, refusal, ByteCall, TrueTimes}
 use Rattle.rules.specs.Whole.{Router, TickCall, put, written, ticked, grantBytes}
 use Rattle.rules.proofs.Booleans.{asked-passed, and-left, cons-first, cons-rest, nil-cons}

@@ -11,7 +11,7 @@ use lib.IntN.{ℤ, pos, negℤ}
 use lib.Signed.{_≤ℤ_, leZ, leZ-yes}
 use borrow.Author.Tests.{eq-eqb, ne-eqb, eqb-true, lt-ltb, ltb-true, le-leb, leb-true}
 use Rattle.rules.specs.Clock.{minus, offset}
-use Rattle.rules.specs.Indices.{all, topFirst}
+use Rattle.rules.specs.Order.{all, topFirst}
 use Rattle.rules.specs.Areas.{Store, bits, half, packet, stamp, elem, distinct}
 use Rattle.rules.specs.Board.{Board, Horizon, Latch, Idle, Time, Deadline, Mask, Delay, Routes, clock, free}
 use Rattle.rules.specs.Questions.{connectionSound, horizonSound, latchSound, settingsSound, stack, listed, stackSound, slotSound, slotsSound, sound}

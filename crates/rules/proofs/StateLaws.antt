@@ -9,7 +9,7 @@ use lib.ListN.{length}
 use lib.Dec.{ltb, eqb}
 use borrow.Author.Tests.{eq-eqb, ne-eqb, lt-ltb, le-ltb}
 use Rattle.rules.specs.Board.{Board, Kind, Idle, Field, free}
-use Rattle.rules.specs.Indices.{topFirst}
+use Rattle.rules.specs.Order.{topFirst}
 use Rattle.rules.specs.Questions.{stack}
 use Rattle.rules.proofs.BoardLaws.{Laws, sameKind, sameField, Valid}
 use Rattle.rules.proofs.TableLaws.{sameKind-differ}

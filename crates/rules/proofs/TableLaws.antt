@@ -12,7 +12,7 @@ use lib.Dec.{ltb, eqb}
 use borrow.Author.Tests.{eqb-true, ltb-true, eq-eqb, ne-eqb}
 use Rattle.rules.specs.Areas.{Bytes, value, digits}
 use Rattle.rules.specs.Board.{byTable, Kind, Clock, Horizon, Latch, Free, Idle, Time, Deadline, Mask, Outgoing, Delay, Routes, Field, clock, getAt, putAt}
-use Rattle.rules.specs.Indices.{all}
+use Rattle.rules.specs.Order.{all}
 use Rattle.rules.proofs.Booleans.{and-left, and-right}
 use Rattle.rules.proofs.BoardLaws.{Laws, freshField, ordinal, extent, width, sameKind, sameField, Valid}
 use Rattle.rules.proofs.IndexLaws.{all-at}

@@ -1,6 +1,6 @@
 -- Demand 3 for the board of document 01, one constant. Assumes nothing.
 use native.Mathlib.Omega.{arith}
-use Rattle.rules.specs.Board8.{board8}
+use Rattle.rules.specs.Board.{board8}
 use Rattle.rules.specs.Demand3.{Demand3}
 use Rattle.rules.proofs.Board8Laws.{lawful8}
 use Rattle.rules.proofs.Agreement.{holds}

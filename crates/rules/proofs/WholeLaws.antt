@@ -13,9 +13,8 @@ use lib.IntN.{ℤ, pos, _+ℤ_}
 use lib.Signed.{leZ}
 use borrow.Author.Tests.{eq-eqb, ne-eqb, eqb-false, lt-ltb, le-ltb}
 use Rattle.rules.specs.Account.{stored, Kept}
-use Rattle.rules.specs.Areas.{byte, packet, has, without, elem, distinct, Grant, nobody, bestEffort, onTime, early}
-use Rattle.rules.specs.Asked.{asked, arrivalQuestions, arrivalAnswer}
-use Rattle.rules.specs.Indices.{count, counted}
+use Rattle.rules.specs.Areas.{byte, packet, has, without, elem, distinct, Grant, nobody, bestEffort, onTime, early, asked, arrivalQuestions, arrivalAnswer}
+use Rattle.rules.specs.Order.{count, counted}
 use Rattle.rules.specs.Whole.{Packet, Held, Router, withPlaces, put, Arrival, absent, refused, accepted, placed, admitted, lose, sent, isDue, remaining, freed, emptied, arrivalRefusal, made, arrival, arrivalCode, isHeld}
 use Rattle.rules.proofs.Booleans.{is-true, asked-passed, some-inj, none-some, and-left, and-right, or-right, not-false}
 use Rattle.rules.proofs.IndexLaws.{count-change, count-same}

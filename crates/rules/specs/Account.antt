@@ -8,9 +8,8 @@ use lib.ListN.{length}
 use lib.Dec.{eqb}
 use lib.IntN.{pos, _+ℤ_, _-ℤ_}
 use lib.Signed.{leZ, _≤ℤ_, _<ℤ_}
-use Rattle.rules.specs.Indices.{counted, count}
-use Rattle.rules.specs.Areas.{byte, packet, has, Grant, nobody, bestEffort, onTime, early, elem, distinct}
-use Rattle.rules.specs.Asked.{asked, arrivalQuestions, arrivalAnswer}
+use Rattle.rules.specs.Order.{counted, count}
+use Rattle.rules.specs.Areas.{byte, packet, has, Grant, nobody, bestEffort, onTime, early, elem, distinct, asked, arrivalQuestions, arrivalAnswer}
 use Rattle.rules.specs.Whole.{Router, TickCall, Packet, Held, accepted, toServe, isHeld, Report, arrivalCode, packetBytes}
 
 -- An accepted tick: the router that it met, the call, what it did, and the outgoing area that the router over bytes left.

@@ -1,8 +1,9 @@
--- What a board is to the router over bytes: the width of its clock and the fields of its state. Assumes nothing.
-use Prim.Native.Nat.{ℕ}
-use mathlib.Core.List.{List, _++_}
-use lib.ListN.{take, drop}
+-- What a board is to the router over bytes: the width of its clock and the fields of its state; and the board of document 01. Assumes nothing.
+use Prim.Native.Nat.{ℕ, _+_, _*_}
+use mathlib.Core.List.{List, [], _∷_, _++_}
+use lib.ListN.{take, drop, replicate}
 use lib.Seq.{sets}
+use Rattle.rules.specs.Order.{topFirst}
 use Rattle.rules.specs.Areas.{value, digits}
 
 -- The kinds of field in the state: for each port a horizon; the registers' last bytes; the free count n and the entries of the idle-address stack;
@@ -41,3 +42,26 @@ module _ (table : Field → ℕ × ℕ) where
 
 abbrev pub byTable : ℕ → ℕ → (Field → ℕ × ℕ) → List ℕ → Board
 byTable c size table rest = record { clockBytes = c; stateLength = size; get = getAt table; put = putAt table; freshState = λ t. digits c t ++ rest }
+
+-- ---- the board of document 01 ("Bytes and areas"): a clock of one byte, a state of 1,804
+
+-- State: each field's offset and its bytes.
+abbrev pub table8 : Field → ℕ × ℕ
+table8 (Clock, i) = (0, 1)
+table8 (Horizon, p) = (1 + p, 1)
+table8 (Latch, r) = (6 + r, 1)
+table8 (Free, i) = (10, 2)
+table8 (Idle, i) = (12 + i, 1)
+table8 (Time, i) = (268 + 3 * i, 1)
+table8 (Deadline, i) = (269 + 3 * i, 1)
+table8 (Mask, i) = (270 + 3 * i, 1)
+table8 (Outgoing, i) = (1036 + 3 * i, 1)
+table8 (Delay, i) = (1037 + 3 * i, 1)
+table8 (Routes, i) = (1038 + 3 * i, 1)
+
+-- After the clock: horizons and registers, the free count 256, the stack, slots and connection table.
+unfoldable pub fresh8 : List ℕ
+fresh8 = replicate 9 0 ++ (1 ∷ 0 ∷ []) ++ topFirst (λ i. i) 256 ++ replicate 1536 0
+
+abbrev pub board8 : Board
+board8 = byTable 1 1804 table8 fresh8

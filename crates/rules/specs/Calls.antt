@@ -8,8 +8,7 @@ use lib.Dec.{eqb}
 use lib.IntN.{ℤ, pos, negℤ, _+ℤ_, _-ℤ_}
 use lib.Signed.{_≤ℤ_, _<ℤ_}
 use Rattle.rules.specs.Clock.{cut, offset}
-use Rattle.rules.specs.Areas.{Reply, numberReply, areasFull, Bytes, bits, half, packet, stamp, has}
-use Rattle.rules.specs.Asked.{asked, controlQuestions, tickQuestions}
+use Rattle.rules.specs.Areas.{Reply, numberReply, areasFull, Bytes, bits, half, packet, stamp, has, asked, controlQuestions, tickQuestions}
 use Rattle.rules.specs.Whole.{Router, TickCall, Report, written, ticked, outgoingBytes, answerBytes}
 
 -- A call as the firmware makes it: a control write, or a tick with the outgoing and answers areas that it is lent.

@@ -7,8 +7,7 @@ use mathlib.Core.Option.{Option, none, some}
 use lib.ListN.{length, take}
 use Rattle.rules.specs.Clock.{cut}
 use Rattle.rules.specs.Areas.{Store, Reply, bits, packet}
-use Rattle.rules.specs.Board.{Board, Horizon, Latch, Time, Deadline, Mask, Outgoing, Delay, Routes, clock, free}
-use Rattle.rules.specs.Board8.{board8}
+use Rattle.rules.specs.Board.{Board, Horizon, Latch, Time, Deadline, Mask, Outgoing, Delay, Routes, clock, free, board8}
 use Rattle.rules.specs.Questions as Entry
 use Rattle.rules.specs.Questions.{fresh, stack, sound}
 use Rattle.rules.specs.Tick.{Outcome}

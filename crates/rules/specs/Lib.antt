@@ -1,10 +1,7 @@
 pub mod Clock
 pub mod Order
-pub mod Indices
 pub mod Areas
 pub mod Board
-pub mod Board8
-pub mod Asked
 pub mod Control
 pub mod Tick
 pub mod Questions

@@ -7,10 +7,9 @@ use lib.Dec.{leb, ltb, eqb}
 use lib.IntN.{pos, negℤ}
 use lib.Signed.{leZ}
 use Rattle.rules.specs.Clock.{minus, offset}
-use Rattle.rules.specs.Indices.{all, count, topFirst}
-use Rattle.rules.specs.Areas.{Store, numberReply, memoryLength, areasFull, bits, half, packet, stamp, elem, distinct}
+use Rattle.rules.specs.Order.{all, count, topFirst}
+use Rattle.rules.specs.Areas.{Store, numberReply, memoryLength, areasFull, bits, half, packet, stamp, elem, distinct, asked, controlQuestions, tickQuestions}
 use Rattle.rules.specs.Board.{Board, Horizon, Latch, Idle, Time, Deadline, Mask, Delay, Routes, clock, free}
-use Rattle.rules.specs.Asked.{asked, controlQuestions, tickQuestions}
 use Rattle.rules.specs.Control.{written}
 use Rattle.rules.specs.Tick.{Outcome, ticked}
 

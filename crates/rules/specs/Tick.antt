@@ -8,10 +8,8 @@ use lib.Dec.{leb, ltb, eqb}
 use lib.IntN.{pos, negℤ}
 use lib.Signed.{ltZ, leZ}
 use Rattle.rules.specs.Clock.{plus, minus, offset}
-use Rattle.rules.specs.Order.{Key, comparator}
-use Rattle.rules.specs.Indices.{least, count}
-use Rattle.rules.specs.Areas.{Store, Reply, packetLength, byte, bits, packet, stamp, payload, packed, has, without, perPort, Grant, nobody, bestEffort, onTime, early, grantCode, noPacket, answersArea}
-use Rattle.rules.specs.Asked.{asked, arrivalQuestions, arrivalAnswer}
+use Rattle.rules.specs.Order.{Key, comparator, least, count}
+use Rattle.rules.specs.Areas.{Store, Reply, packetLength, byte, bits, packet, stamp, payload, packed, has, without, perPort, Grant, nobody, bestEffort, onTime, early, grantCode, noPacket, answersArea, asked, arrivalQuestions, arrivalAnswer}
 use Rattle.rules.specs.Board.{Board, Horizon, Idle, Time, Deadline, Mask, Outgoing, Delay, Routes, clock, free}
 
 -- From the winner and its key, best-effort's wait and the horizon.

@@ -8,10 +8,8 @@ use lib.Dec.{eqb}
 use lib.IntN.{ℤ, pos, _+ℤ_, _-ℤ_, sucℤ}
 use lib.Signed.{ltZ, leZ}
 use Rattle.rules.specs.Clock.{cut}
-use Rattle.rules.specs.Order.{by, Key, comparator}
-use Rattle.rules.specs.Indices.{least, topFirst}
-use Rattle.rules.specs.Asked.{asked, arrivalQuestions}
-use Rattle.rules.specs.Areas.{byte, bits, packet, payload, packed, has, without, latchPlace, perPort, Grant, nobody, bestEffort, onTime, early, grantCode, noPacket, answersArea}
+use Rattle.rules.specs.Order.{by, Key, comparator, least, topFirst}
+use Rattle.rules.specs.Areas.{asked, arrivalQuestions, byte, bits, packet, payload, packed, has, without, latchPlace, perPort, Grant, nobody, bestEffort, onTime, early, grantCode, noPacket, answersArea}
 
 -- An accepted packet. Tick and port of arrival tell it from every other.
 pub record Packet : Type 0 where

@@ -6,7 +6,7 @@ ghost use mathlib.Core.List.{[], _∷_};
 ghost use Prim.Native.Nat.{ℕ, _<_};
 ghost use lib.ListN.{length};
 ghost use Rattle.rules.specs.Areas.{memoryLength, outgoingLength, perPort, grantCode};
-ghost use Rattle.rules.specs.Board8.{board8};
+ghost use Rattle.rules.specs.Board.{board8};
 ghost use Rattle.rules.specs.Tick.{grant, grantBytes, served, withdrawals, withdrawn, returned, advanced};
 ghost use Rattle.layout.specs.Room.{Room};
 ghost use Rattle.passes.specs.Empty.{EmptyFrom};

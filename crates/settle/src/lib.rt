@@ -2,8 +2,7 @@
 ghost use mathlib.Core.Path.{_≡_};
 ghost use Prim.Native.Nat.{ℕ, _+_, _<_, _≤_};
 ghost use lib.ListN.{length, getD};
-ghost use Rattle.rules.specs.Board.{Mask, free};
-ghost use Rattle.rules.specs.Board8.{board8};
+ghost use Rattle.rules.specs.Board.{Mask, free, board8};
 ghost use Rattle.rules.specs.Tick.{giveBack};
 ghost use Rattle.layout.specs.Room.{Room};
 ghost use Rattle.passes.specs.Empty.{EmptyFrom};

@@ -13,8 +13,7 @@ use lib.IntN.{pos, _+ℤ_}
 use borrow.Author.Tests.{eqb-true, eqb-false}
 use Rattle.rules.specs.Account.{Kept, stored}
 use Rattle.rules.specs.Areas.{Store, Bytes, byte, low, bits, half, packet, payload, packed}
-use Rattle.rules.specs.Board.{Board, Horizon, Latch, Idle, Time, Deadline, Mask, Outgoing, Delay, Routes, clock, free}
-use Rattle.rules.specs.Board8.{board8}
+use Rattle.rules.specs.Board.{Board, Horizon, Latch, Idle, Time, Deadline, Mask, Outgoing, Delay, Routes, clock, free, board8}
 use Rattle.rules.specs.Calls.{Call, control, tick, fed, feed, wholeStep}
 use Rattle.rules.specs.Clock.{cut, plus, offset}
 use Rattle.rules.specs.Demand3.{HeldShown, byteStep, storeAfter}

@@ -3,7 +3,7 @@ ghost use mathlib.Core.Path.{_≡_};
 ghost use Prim.Native.Nat.{_+_, _*_, _^_, _≤_, _<_};
 ghost use lib.ListN.{length, take};
 ghost use Rattle.rules.specs.Areas.{memoryLength, arrivalsLength};
-ghost use Rattle.rules.specs.Board8.{board8};
+ghost use Rattle.rules.specs.Board.{board8};
 ghost use Rattle.records.specs.Records.{recordsIn};
 ghost use Rattle.events.specs.Tape.{takeRecord};
 ghost use Rattle.events.specs.Values.{tapeOf};

@@ -3,7 +3,7 @@ use Prim.Native.Nat.{ℕ}
 use mathlib.Core.Path.{_≡_}
 use mathlib.Core.List.{List, [], _∷_}
 use Rattle.rules.specs.Areas.{Store, byte, packet, answersArea, portsBelow, perPort, grantCode}
-use Rattle.rules.specs.Board8.{board8}
+use Rattle.rules.specs.Board.{board8}
 use Rattle.rules.specs.Tick.{Outcome, arrival, arrived, grant, grantBytes, served, withdrawals, withdrawn, returned, advanced, ticked}
 
 pub ticked-is : (r r₁ : Store) (arriving waiting : ℕ) (area out ans codes met counts s : List ℕ) → r₁ ≡ arrived board8 5 arriving area r

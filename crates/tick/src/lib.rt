@@ -4,7 +4,7 @@ ghost use Prim.Native.Nat.{_/_, _%_};
 ghost use lib.ListN.{length};
 ghost use mathlib.Core.List.{[], _∷_};
 ghost use Rattle.rules.specs.Areas.{byte, perPort, answersLength, answersArea};
-ghost use Rattle.rules.specs.Board8.{board8};
+ghost use Rattle.rules.specs.Board.{board8};
 ghost use Rattle.rules.specs.Tick.{Outcome, ticked};
 ghost use Rattle.layout.specs.Room.{Lent};
 use layout::Router;

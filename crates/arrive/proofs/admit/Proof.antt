@@ -6,7 +6,7 @@ use lib.Dec.{eqb}
 use denote.Enum.Declared.{tagOf}
 use types.Run.{OneOf, miss}
 use borrow.Author.Tests.{eq-eqb}
-use Rattle.rules.specs.Board8.{board8}
+use Rattle.rules.specs.Board.{board8}
 use Rattle.passes.proofs.Arrivals.{stored-has-free}
 use Rattle.arrive.specs.declared.Arrival.{Arrival}
 use Rattle.arrive.specs.declared.Arrival.the-variants.{Absent, Stored, Closed, Late, Full}

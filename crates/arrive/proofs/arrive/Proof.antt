@@ -1,7 +1,7 @@
 -- `arrive::arrive` meets its contract. The loop's invariant: the store and the answers are those of the ports below p. The measure is the ports left. Assumes nothing.
 use Prim.Native.Nat.{_-_}
 use mathlib.Core.Path.{_∙_}
-use Rattle.rules.specs.Board8.{board8}
+use Rattle.rules.specs.Board.{board8}
 use Rattle.passes.specs.Stores.{store}
 use Rattle.passes.proofs.Arrivals.{ArrivedBelow, arrived-none, arrived-next, arrived-all}
 use Rattle.passes.proofs.Packets.{part-packet}

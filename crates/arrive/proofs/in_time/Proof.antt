@@ -1,6 +1,6 @@
 -- `arrive::in_time` meets its contract: `clock::in_time` tells whether the offset is at least - d. Assumes nothing.
 use mathlib.Core.Path.{sym}
-use Rattle.rules.specs.Board8.{board8}
+use Rattle.rules.specs.Board.{board8}
 use Rattle.rules.proofs.FieldBytes.{stamp-one}
 use Rattle.passes.proofs.Arrivals.{inTime-read}
 use borrow.Author.Needs.{needs}

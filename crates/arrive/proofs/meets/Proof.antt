@@ -4,10 +4,9 @@ use mathlib.Core.Path.{_≡_}
 use native.Mathlib.Omega.{arith}
 use lib.Dec.{eqb}
 use borrow.Author.Tests.{not-true, not-false, eq-eqb, ne-eqb}
-use Rattle.rules.specs.Board.{free}
-use Rattle.rules.specs.Board8.{board8}
+use Rattle.rules.specs.Board.{free, board8}
 use Rattle.rules.specs.Tick.{arrivalRefusal, arrival}
-use Rattle.rules.specs.Asked.{asked, arrivalAnswer}
+use Rattle.rules.specs.Areas.{asked, arrivalAnswer}
 use Rattle.passes.specs.Arrivals.{inTime}
 use Rattle.passes.proofs.Arrivals.{routed-answer}
 use borrow.Author.Needs.{needs}

@@ -1,6 +1,6 @@
 -- `arrive::place` meets its contract: what each call gives, from the last store back to the first read, makes `placed`. Assumes nothing.
 use mathlib.Core.Path.{sym}
-use Rattle.rules.specs.Board8.{board8}
+use Rattle.rules.specs.Board.{board8}
 use Rattle.rules.proofs.Board8Laws.{lawful8}
 use Rattle.rules.proofs.FieldBytes.{stamp-one}
 use Rattle.passes.specs.Stores.{store}

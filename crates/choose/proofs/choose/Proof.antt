@@ -1,7 +1,7 @@
 -- `choose::choose` meets its contract: at each return a law of `Ranks` says what a rank with these tests grants; a turn of the clock is 256. Assumes nothing.
 use Rattle.passes.proofs.Ranks.{grants-on-time, grants-none, grants-early, grants-unsent}
 use Rattle.rules.specs.Areas.{low, bits}
-use Rattle.rules.specs.Board8.{board8}
+use Rattle.rules.specs.Board.{board8}
 use mathlib.Core.Path.{_∙_}
 use native.Mathlib.Omega.{arith}
 use borrow.Author.Needs.{needs}

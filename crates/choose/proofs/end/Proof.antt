@@ -1,7 +1,7 @@
 -- `choose::end` meets its contract. The loop's invariant: the slots from `e` on are empty. The measure is `e`. Assumes nothing.
 use Rattle.passes.specs.Empty.{EmptyFrom}
 use Rattle.passes.proofs.EmptySlots.{empty-less}
-use Rattle.rules.specs.Board8.{board8}
+use Rattle.rules.specs.Board.{board8}
 use mathlib.Core.Path.{sym, _∙_}
 use borrow.Author.Needs.{needs}
 use native.Mathlib.Omega.{arith}

@@ -1,6 +1,6 @@
 -- `choose::look` meets its contract: a slot without a port changes no least rank, and any other is offered to its ports. Assumes nothing.
 use Rattle.passes.proofs.Ranks.{bests-suc, bests-none}
-use Rattle.rules.specs.Board8.{board8}
+use Rattle.rules.specs.Board.{board8}
 use borrow.Author.Needs.{needs}
 use native.Mathlib.Omega.{arith}
 use Rattle.choose.proofs.look.Statement.{statement}

@@ -1,6 +1,6 @@
 -- `choose::rank` meets its contract: a slot is early unless its offset is at most 0, and a turn of the clock is 256. Assumes nothing.
 use Rattle.rules.specs.Areas.{low, bits}
-use Rattle.rules.specs.Board8.{board8}
+use Rattle.rules.specs.Board.{board8}
 use Rattle.passes.proofs.Ranks.{rank-on-time, rank-early}
 use mathlib.Core.Path.{sym, _∙_}
 use borrow.Author.Needs.{needs}

@@ -6,7 +6,7 @@ use Rattle.passes.proofs.EmptySlots.{to-end}
 use Rattle.passes.proofs.MaskPorts.{each-as}
 use Rattle.passes.proofs.Ranks.{bests-start, best-empty}
 use Rattle.rules.specs.Areas.{low, bits}
-use Rattle.rules.specs.Board8.{board8}
+use Rattle.rules.specs.Board.{board8}
 use native.Mathlib.Numerals.{add-one}
 use mathlib.Core.Path.{_≡_}
 use Prim.Native.Nat.{ℕ, _-_, _≤_}

@@ -9,8 +9,7 @@ use native.Mathlib.Numerals.{add-one}
 use native.Mathlib.Omega.{arith}
 use lib.ListN.{length}
 use Rattle.rules.specs.Areas.{has}
-use Rattle.rules.specs.Board.{Horizon}
-use Rattle.rules.specs.Board8.{board8}
+use Rattle.rules.specs.Board.{Horizon, board8}
 use Rattle.rules.specs.Control.{commitHorizon}
 use Rattle.control.specs.declared.Latch.{Latch}
 use borrow.Author.Needs.{needs}

@@ -7,8 +7,7 @@ use mathlib.Core.Logic.{_≢_}
 use native.Mathlib.Omega.{arith}
 use borrow.Author.Needs.{needs}
 use Rattle.rules.specs.Areas.{latchPlace}
-use Rattle.rules.specs.Board.{Latch}
-use Rattle.rules.specs.Board8.{board8}
+use Rattle.rules.specs.Board.{Latch, board8}
 use Rattle.rules.specs.Control.{written}
 use Rattle.control.specs.declared.Latch.{Latch}
 use Rattle.control.specs.Latches.{latchWith, latchByte}

@@ -3,7 +3,7 @@
 use mathlib.Core.Path.{_≡_, sym, ap, _∙_}
 use native.Mathlib.Omega.{arith}
 use lib.ListN.{length}
-use Rattle.rules.specs.Board8.{board8}
+use Rattle.rules.specs.Board.{board8}
 use Rattle.rules.proofs.AreaLaws.{sets-all}
 use Rattle.rules.proofs.Board8Laws.{lawful8}
 use Rattle.passes.proofs.MakeFresh.{refused-state, refused-memory, accepted}

@@ -1,7 +1,6 @@
 -- `layout::free_count` meets its contract: the free count has two bytes, high first. Assumes nothing.
 use Rattle.rules.proofs.FieldBytes.{get-two}
-use Rattle.rules.specs.Board.{free}
-use Rattle.rules.specs.Board8.{table8}
+use Rattle.rules.specs.Board.{free, table8}
 use mathlib.Core.Path.{refl, sym}
 use native.Mathlib.Omega.{arith}
 use borrow.Author.Needs.{needs}

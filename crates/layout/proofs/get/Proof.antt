@@ -1,7 +1,7 @@
 -- `layout::get` meets its contract: a field of one byte is the byte at its place. Assumes nothing.
 use Rattle.layout.proofs.OneByte.{one-byte}
 use Rattle.rules.proofs.FieldBytes.{get-one}
-use Rattle.rules.specs.Board8.{table8}
+use Rattle.rules.specs.Board.{table8}
 use Rattle.layout.specs.Fields.{fieldOf}
 use borrow.Author.Needs.{needs}
 use Rattle.layout.proofs.get.Statement.{statement}

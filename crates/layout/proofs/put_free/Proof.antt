@@ -1,7 +1,6 @@
 -- `layout::put_free` meets its contract: the free count has two bytes, high first. Assumes nothing.
 use Rattle.rules.proofs.FieldBytes.{put-two}
-use Rattle.rules.specs.Board.{free}
-use Rattle.rules.specs.Board8.{table8}
+use Rattle.rules.specs.Board.{free, table8}
 use mathlib.Core.Path.{refl, sym}
 use borrow.Author.Needs.{needs}
 use Rattle.layout.proofs.put_free.Statement.{statement}

@@ -4,7 +4,7 @@ use Rattle.passes.specs.Settling.{settled}
 use Rattle.passes.proofs.Packets.{length-won}
 use Rattle.passes.proofs.Sends.{sends-le}
 use Rattle.passes.proofs.Steps.{settled-steps, counts-withdrawals}
-use Rattle.rules.specs.Board8.{board8}
+use Rattle.rules.specs.Board.{board8}
 use Rattle.rules.specs.Tick.{advanced}
 use Rattle.rules.proofs.Board8Laws.{lawful8}
 use mathlib.Core.List.{List}

@@ -2,7 +2,7 @@
 use Rattle.choose.specs.Grants.{grantAt}
 use Rattle.passes.proofs.Sends.{granted-wins, granted-served, granted-ports}
 use Rattle.rules.specs.Areas.{Grant, grantCode}
-use Rattle.rules.specs.Board8.{board8}
+use Rattle.rules.specs.Board.{board8}
 use Rattle.rules.specs.Tick.{grantBytes}
 use Rattle.rules.proofs.Board8Laws.{lawful8}
 use mathlib.Core.List.{[], _∷_}

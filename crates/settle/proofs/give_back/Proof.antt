@@ -1,7 +1,7 @@
 -- `settle::give_back` meets its contract: the stores are those of the definition, and emptying the mask leaves n. Assumes nothing.
 use Rattle.passes.proofs.GivingBack.{free-emptied}
 use Rattle.rules.proofs.Board8Laws.{lawful8}
-use Rattle.rules.specs.Board8.{board8}
+use Rattle.rules.specs.Board.{board8}
 use borrow.Author.Needs.{needs}
 use native.Mathlib.Omega.{arith}
 use Rattle.settle.proofs.give_back.Statement.{statement}

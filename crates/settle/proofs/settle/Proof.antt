@@ -5,8 +5,8 @@ use Rattle.passes.specs.Settling.{settled, missed}
 use Rattle.passes.proofs.EmptySlots.{to-end}
 use Rattle.passes.proofs.MaskPorts.{each-as}
 use Rattle.passes.proofs.Settling.{length-settled, settled-room, settled-keeps-mask, settled-turn, settled-empty, missed-turn, missed-few, missed-empty}
-use Rattle.rules.specs.Board8.{board8}
-use Rattle.rules.specs.Indices.{count}
+use Rattle.rules.specs.Board.{board8}
+use Rattle.rules.specs.Order.{count}
 use Rattle.rules.proofs.Board8Laws.{lawful8}
 use lib.ListN.{length, getD-replicate}
 use native.Mathlib.Numerals.{add-one}

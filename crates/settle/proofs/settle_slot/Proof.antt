@@ -1,7 +1,7 @@
 -- `settle::settle_slot` meets its contract: at each return two laws of `Settling` say what these tests and stores make of the counts and of the state.
 -- Assumes nothing.
 use Rattle.passes.proofs.Settling.{slot-waits, slot-empty, slot-due, slot-sent, slot-left, counts-waiting, counts-empty, counts-due}
-use Rattle.rules.specs.Board8.{board8}
+use Rattle.rules.specs.Board.{board8}
 use Rattle.rules.proofs.Board8Laws.{lawful8}
 use mathlib.Core.Path.{sym, _∙_}
 use native.Mathlib.Omega.{arith}

@@ -3,8 +3,8 @@
 use Prim.Native.Nat.{_≤_, _-_}
 use mathlib.Core.Path.{_≡_, refl}
 use native.Mathlib.Omega.{arith}
-use Rattle.rules.specs.Indices.{all}
-use Rattle.rules.specs.Board8.{board8}
+use Rattle.rules.specs.Order.{all}
+use Rattle.rules.specs.Board.{board8}
 use Rattle.rules.specs.Questions.{listed}
 use Rattle.passes.proofs.FirstFailure.{all-next}
 use borrow.Author.Needs.{needs}

@@ -1,6 +1,6 @@
 -- `sound::horizons_sound` meets its contract. The loop's invariant: the horizons passed are in range. The measure is how many are left. Assumes nothing.
 use Prim.Native.Nat.{_-_}
-use Rattle.rules.specs.Board8.{board8}
+use Rattle.rules.specs.Board.{board8}
 use Rattle.rules.specs.Questions.{horizonSound}
 use Rattle.passes.proofs.FirstFailure.{Passed, passed-none, passed-next, fails-at, passed-all}
 use lib.Dec.{ltb}

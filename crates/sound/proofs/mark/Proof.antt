@@ -2,7 +2,7 @@
 use Prim.Native.Nat.{_≤_, _-_}
 use mathlib.Core.Path.{_≡_}
 use native.Mathlib.Omega.{arith}
-use Rattle.rules.specs.Board8.{board8}
+use Rattle.rules.specs.Board.{board8}
 use Rattle.passes.specs.Stack.{Marked}
 use Rattle.passes.proofs.StackMarks.{marked-none, marked-next}
 use borrow.Author.Needs.{needs}

@@ -8,8 +8,7 @@ use lib.IntN.{pos, negℤ}
 use lib.Signed.{leZ}
 use borrow.Author.Tests.{not-true, not-false, eq-eqb, ne-eqb, lt-leb, le-leb, lt-ltb, le-ltb}
 use Rattle.rules.specs.Areas.{low, bits, half, packet, stamp}
-use Rattle.rules.specs.Board.{clock}
-use Rattle.rules.specs.Board8.{board8}
+use Rattle.rules.specs.Board.{clock, board8}
 use Rattle.rules.specs.Clock.{offset}
 use Rattle.rules.specs.Questions.{slotSound}
 use Rattle.rules.proofs.FieldBytes.{stamp-one, packet-byte}

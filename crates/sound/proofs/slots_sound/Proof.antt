@@ -1,6 +1,6 @@
 -- `sound::slots_sound` meets its contract. The loop's invariant: the slots passed are sound. The measure is how many are left. Assumes nothing.
 use Prim.Native.Nat.{_-_}
-use Rattle.rules.specs.Board8.{board8}
+use Rattle.rules.specs.Board.{board8}
 use Rattle.rules.specs.Questions.{slotSound, slotsSound}
 use Rattle.passes.proofs.FirstFailure.{Passed, passed-none, passed-next, fails-at, passed-all}
 use Rattle.passes.specs.Stores.{store}

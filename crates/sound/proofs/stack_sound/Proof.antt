@@ -4,7 +4,7 @@ use mathlib.Core.Bool.{true≢false}
 use mathlib.Core.Path.{_≡_, refl, sym, _∙_}
 use native.Mathlib.Omega.{arith}
 use borrow.Author.Tests.{not-true, not-false, lt-leb, le-leb}
-use Rattle.rules.specs.Board8.{board8}
+use Rattle.rules.specs.Board.{board8}
 use Rattle.rules.specs.Questions.{stack, stackSound}
 use Rattle.rules.proofs.Board8Laws.{lawful8}
 use Rattle.passes.proofs.StackMarks.{stack-sound-is, sound-has-room}
