@@ -12,7 +12,7 @@ use lib.IntN.{ℤ, sucℤ}
 use lib.Signed.{leZ}
 use Rattle.rules.specs.Order.{counted}
 use Rattle.rules.specs.Whole.{Router, Packet, start}
-use Rattle.rules.specs.Calls.{routerAfter}
+use Rattle.rules.specs.Calls.{afterAll, wholeStep}
 use Rattle.rules.specs.Account.{NotedTick, isSent, times, sentOn, withdrawnOn, leftOn, Permitted, Account}
 use Rattle.rules.proofs.Integers.{orders, suc-nat, antisym, later-differs}
 use Rattle.rules.proofs.Runs.{Run, moment, over, after-tick}
@@ -80,5 +80,5 @@ no-third t ht ks P x a q d m n p hp =
     let R = agreed-after t ht ks P .run in
     let done = one-does p x R m (λ e k l. idle-else e p x (C .permitted e k) q (λ z. l (z ∙ sym n))) in
     let o = C .once in
-    let z = none-left C (subst (λ (z : ℤ). T (leZ (sucℤ z) (routerAfter 1 (start t) ks .clock))) (n ∙ sym q) (over 1 R m)) in
+    let z = none-left C (subst (λ (z : ℤ). T (leZ (sucℤ z) (afterAll (wholeStep 1) (start t) ks .clock))) (n ∙ sym q) (over 1 R m)) in
     record { one = omega arith; bytes = λ s. C .permitted d m .sent s .3 }

@@ -34,7 +34,7 @@ module _ (c : ℕ) where
 
   unfoldable pub isProper : Router → List Call → Bool
   isProper r [] = true
-  isProper r (k ∷ ks) = isProperCall r k && isProper (wholeStep c r k .router) ks
+  isProper r (k ∷ ks) = isProperCall r k && isProper (wholeStep c r k .after) ks
 
 are-bytes : (l : List ℕ) → areBytes l ≡ true → (i : ℕ) → i < length l → byte l i < 256
 unfolding areBytes
@@ -92,6 +92,6 @@ module _ (c : ℕ) where
   proper [] r e = tt
   proper (k ∷ ks) r e =
       let a = isProperCall c r k in
-      let b = isProper c (wholeStep c r k .router) ks in
+      let b = isProper c (wholeStep c r k .after) ks in
       let e₁ = and-left a b e in
-      (byte-call r k e₁, true-times r k e₁, proper ks (wholeStep c r k .router) (and-right a b e))
+      (byte-call r k e₁, true-times r k e₁, proper ks (wholeStep c r k .after) (and-right a b e))

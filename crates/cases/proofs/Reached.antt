@@ -12,8 +12,8 @@ use Rattle.rules.specs.Board.{board8}
 use Rattle.rules.specs.Questions.{fresh}
 use Rattle.rules.specs.Tick as Bytes
 use Rattle.rules.specs.Whole.{Router, TickCall, start}
-use Rattle.rules.specs.Calls.{Call, tick, refusal, wholeStep, routerAfter, ByteCall, TrueTimes, Proper}
-use Rattle.rules.specs.Demand3.{byteStep, storeAfter, AfterCalls, Holds, Demand3}
+use Rattle.rules.specs.Calls.{Call, tick, refusal, wholeStep, ByteCall, TrueTimes, Proper, afterAll}
+use Rattle.rules.specs.Demand3.{byteStep, AfterCalls, Holds, Demand3}
 use Rattle.rules.proofs.Theorem.{demand3}
 use Rattle.rules.proofs.Board8Laws.{lawful8}
 use Rattle.rules.proofs.Relation.{Rel}
@@ -27,28 +27,28 @@ use Rattle.rules.proofs.Agreement.{start-good, fresh-rel, Agree, agree, Agreed,
 module _ (t : ℕ) (h : t < 256) (ks : List Call) (P : Proper 1 (start t) ks) where
   -- Demand 3 after the whole list.
   pub after-calls : AfterCalls board8 t ks
-  unfolding Demand3 Holds A.bits A.low
+  unfolding Demand3 Holds A.bits
   after-calls = subst (AfterCalls board8 t) (take-length ks) (demand3 .0 t h ks P (length ks) (le-refl (length ks)))
 
   -- And what it comes from: both routers are related, and what was noted makes a run.
   pub agreed-after : Agreed board8 lawful8 (fresh board8 t) (start t) ks
-  unfolding A.bits A.low
+  unfolding A.bits
   agreed-after = agreed board8 lawful8 ks (fresh-rel board8 lawful8 t h) (start-good 1 t) P
 
 -- A list and one more call.
-proper-then : (ks : List Call) (w : Router) (k : Call) → Proper 1 w (ks ++ (k ∷ [])) → Proper 1 w ks × ByteCall 1 k × TrueTimes 1 (routerAfter 1 w ks) k
-unfolding Proper routerAfter
+proper-then : (ks : List Call) (w : Router) (k : Call) → Proper 1 w (ks ++ (k ∷ [])) → Proper 1 w ks × ByteCall 1 k × TrueTimes 1 (afterAll (wholeStep 1) w ks) k
+unfolding Proper afterAll
 proper-then [] w k P = (tt, P .0, P .1)
-proper-then (j ∷ ks) w k P = let (Q, b, t) = proper-then ks (wholeStep 1 w j .router) k (P .2) in ((P .0, P .1, Q), b, t)
+proper-then (j ∷ ks) w k P = let (Q, b, t) = proper-then ks (wholeStep 1 w j .after) k (P .2) in ((P .0, P .1, Q), b, t)
 
 -- ---- a tick after the list
 
 module _ (t : ℕ) (h : t < 256) (ks : List Call) (k : TickCall) (out ans : List ℕ) (P : Proper 1 (start t) (ks ++ (tick k out ans ∷ []))) where
   abbrev r : Store
-  r = storeAfter board8 (fresh board8 t) ks
+  r = afterAll (byteStep board8) (fresh board8 t) ks
 
   abbrev w : Router
-  w = routerAfter 1 (start t) ks
+  w = afterAll (wholeStep 1) (start t) ks
 
   -- Before it.
   pub met : Agreed board8 lawful8 (fresh board8 t) (start t) ks

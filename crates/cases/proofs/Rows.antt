@@ -60,12 +60,12 @@ by-router r =
     record {
       clock = pos (cut (bits 1) (beforeWhole r .clock));
       reply = o .reply;
-      candidates = listed (λ i. by-places (cut (bits 1) (arrivedWhole r .clock)) i (packet (o .reply .outgoing) 0) (arrivedWhole r .place i) (o .router .place i)) 256;
+      candidates = listed (λ i. by-places (cut (bits 1) (arrivedWhole r .clock)) i (packet (o .reply .outgoing) 0) (arrivedWhole r .place i) (o .after .place i)) 256;
     }
 
 module _ (r : Row) (h : r .from < 256) (P : Proper 1 (start (r .from)) (r .earlier ++ (lent (r .tick) ∷ []))) (e : refusal 1 (beforeWhole r) (lent (r .tick)) ≡ 0) where
   abbrev end : Router
-  end = wholeStep 1 (beforeWhole r) (lent (r .tick)) .router
+  end = wholeStep 1 (beforeWhole r) (lent (r .tick)) .after
 
   -- What both routers do in the tick.
   done : Agree board8 lawful8 (beforeWhole r) (lent (r .tick)) (byteStep board8 (before r) (lent (r .tick))) (wholeStep 1 (beforeWhole r) (lent (r .tick)))
@@ -88,7 +88,7 @@ module _ (r : Row) (h : r .from < 256) (P : Proper 1 (start (r .from)) (r .earli
 
       go : (v : Option Held) → SlotShows board8 lawful8 (arrived r) i v → candidateOnBytes r i ≡ by-places (cut (bits 1) (arrivedWhole r .clock)) i (packet (outcome r .reply .outgoing) 0) v (end .place i)
       go none H = rw (H, has-zero 0 (omega arith))
-      go (some x) H = rw (R .settings .reads clock refl (omega arith), H .left, H .time, H .deadline, H .bytes, mask-left (outcome r .store) i (end .place i) (done .rel .place i l))
+      go (some x) H = rw (R .settings .reads clock refl (omega arith), H .left, H .time, H .deadline, H .bytes, mask-left (outcome r .after) i (end .place i) (done .rel .place i l))
 
   -- All that is seen.
   bytes-seen : onBytes r ≡ by-router r

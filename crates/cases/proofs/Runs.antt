@@ -6,7 +6,7 @@ use mathlib.Core.List.{List}
 use native.Mathlib.Omega.{arith}
 use Rattle.rules.specs.Areas.{Reply}
 use Rattle.rules.specs.Whole.{start}
-use Rattle.rules.specs.Calls.{Call, wholeReplies, routerAfter}
+use Rattle.rules.specs.Calls.{Call, afterAll, replies, wholeStep}
 use Rattle.rules.specs.Account.{stored}
 use Rattle.cases.specs.Runs as S
 use Rattle.cases.specs.Runs.{Gives, Runs}
@@ -16,7 +16,7 @@ use Rattle.cases.proofs.Reached.{after-calls}
 
 -- ---- what demand 3 says of a proper list
 
-gives : (t : ℕ) → t < 256 → (ks : List Call) (rs : List Reply) (n m : ℕ) → isProper 1 (start t) ks ≡ true → wholeReplies 1 (start t) ks ≡ rs → stored (routerAfter 1 (start t) ks .place) ≡ m → n + m ≡ 256 → Gives t ks rs n
+gives : (t : ℕ) → t < 256 → (ks : List Call) (rs : List Reply) (n m : ℕ) → isProper 1 (start t) ks ≡ true → replies (wholeStep 1) (start t) ks ≡ rs → stored (afterAll (wholeStep 1) (start t) ks .place) ≡ m → n + m ≡ 256 → Gives t ks rs n
 gives t h ks rs n m p w s e =
     let a = after-calls t h ks (proper 1 ks (start t) p) in
     record { whole = w; bytes = a .replies ∙ w; left = omega (arith, a .shown .free, s, e) }

@@ -6,18 +6,17 @@ use mathlib.Core.Option.{Option, none, some}
 use lib.Dec.{ltb, eqb}
 use lib.IntN.{ℤ, pos, _-ℤ_}
 use lib.Signed.{ltZ}
-use Rattle.rules.specs.Areas.{Store, Reply, packet, has}
+use Rattle.rules.specs.Areas.{Store, Reply, packet, has, Outcome}
 use Rattle.rules.specs.Order.{Key}
 use Rattle.rules.specs.Board.{Mask, clock, board8}
 use Rattle.rules.specs.Tick as Bytes
-use Rattle.rules.specs.Tick.{Outcome}
 use Rattle.rules.specs.Questions as Entry
 use Rattle.rules.specs.Questions.{fresh}
 use Rattle.rules.specs.Whole as Whole
 use Rattle.rules.specs.Whole.{Router, Packet, TickCall, Report, start, toServe, packetBytes}
-use Rattle.rules.specs.Calls.{Call, routerAfter, wholeStep}
+use Rattle.rules.specs.Calls.{Call, wholeStep, afterAll}
 use Rattle.rules.specs.Account.{isSent, times}
-use Rattle.rules.specs.Demand3.{storeAfter}
+use Rattle.rules.specs.Demand3.{byteStep}
 use Rattle.cases.specs.Shorthand.{nines, lent}
 
 -- ---- rows
@@ -65,10 +64,10 @@ listed f (suc n) = listed f n ++ go (f n)
 
 -- State and memory that the tick meets.
 unfoldable pub before : Row → Store
-before r = storeAfter board8 (fresh board8 (r .from)) (r .earlier)
+before r = afterAll (byteStep board8) (fresh board8 (r .from)) (r .earlier)
 
 -- The entry, with all its questions.
-unfoldable pub outcome : Row → Outcome
+unfoldable pub outcome : Row → Outcome Store
 outcome r = let k = r .tick in Entry.tick board8 (before r) (k .arriving) (k .bestEffort) (k .arrivals) (nines 100) (nines 20)
 
 -- After step 1, where the keys are taken.
@@ -99,7 +98,7 @@ candidateOnBytes r i =
       slot = i;
       bytes = k;
       key = whole (Bytes.slotKey board8 s i);
-      fate = fateOf (has (board8 .get (o .store .state) (Mask, i)) 0) (sameBytes k (packet (o .reply .outgoing) 0));
+      fate = fateOf (has (board8 .get (o .after .state) (Mask, i)) 0) (sameBytes k (packet (o .reply .outgoing) 0));
     })) none
 
 unfoldable pub onBytes : Row → Seen
@@ -108,7 +107,7 @@ onBytes r = record { clock = pos (board8 .get (before r .state) clock); reply = 
 -- ---- a row at the router that never turns over
 
 unfoldable pub beforeWhole : Row → Router
-beforeWhole r = routerAfter 1 (start (r .from)) (r .earlier)
+beforeWhole r = afterAll (wholeStep 1) (start (r .from)) (r .earlier)
 
 unfoldable pub arrivedWhole : Row → Router
 arrivedWhole r = Whole.arrived 1 5 (r .tick) (beforeWhole r)

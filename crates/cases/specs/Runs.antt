@@ -8,8 +8,8 @@ use Rattle.rules.specs.Areas.{Reply, numberReply, noPacket}
 use Rattle.rules.specs.Board.{free, board8}
 use Rattle.rules.specs.Questions.{fresh}
 use Rattle.rules.specs.Whole.{start}
-use Rattle.rules.specs.Calls.{Call, control, wholeReplies}
-use Rattle.rules.specs.Demand3.{storeAfter, byteReplies}
+use Rattle.rules.specs.Calls.{Call, control, afterAll, replies, wholeStep}
+use Rattle.rules.specs.Demand3.{byteStep}
 use Rattle.cases.specs.Shorthand.{connect, packetWith, five, nines, ticking, lent, ticked, empty}
 
 -- Replies to four control writes, and to a tick refused.
@@ -78,9 +78,9 @@ belowZeroReplies =
 
 -- From a fresh router at t both routers give the replies rs to the calls ks, and the router over bytes has n free slots left.
 pub record Gives (t : ℕ) (ks : List Call) (rs : List Reply) (n : ℕ) : Type 0 where
-  pub whole : wholeReplies 1 (start t) ks ≡ rs
-  pub bytes : byteReplies board8 (fresh board8 t) ks ≡ rs
-  pub left : board8 .get (storeAfter board8 (fresh board8 t) ks .state) free ≡ n
+  pub whole : replies (wholeStep 1) (start t) ks ≡ rs
+  pub bytes : replies (byteStep board8) (fresh board8 t) ks ≡ rs
+  pub left : board8 .get (afterAll (byteStep board8) (fresh board8 t) ks .state) free ≡ n
 
 unfoldable pub Runs : Type 0
 Runs = Gives 254 turning turningReplies 255 × Gives 2 belowZero belowZeroReplies 256

@@ -3,12 +3,12 @@ use Prim.Native.Nat.{ℕ}
 use mathlib.Core.Bool.{cond}
 use mathlib.Core.List.{List}
 use lib.Dec.{eqb}
-use Rattle.rules.specs.Board.{Latch, board8}
+use Rattle.rules.specs.Board.{Latch as LatchField, board8}
 use Rattle.control.specs.declared.Latch.{Latch}
 
 -- The latch that a state holds.
 abbrev pub latchOf : List ℕ → Latch
-latchOf s = record { outgoing = board8 .get s (Latch, 0); delay = board8 .get s (Latch, 1); routes = board8 .get s (Latch, 2); horizons = board8 .get s (Latch, 3) }
+latchOf s = record { outgoing = board8 .get s (LatchField, 0); delay = board8 .get s (LatchField, 1); routes = board8 .get s (LatchField, 2); horizons = board8 .get s (LatchField, 3) }
 
 -- A latch with the byte v in register r; the commits, 3 and 5, leave it.
 abbrev pub latchWith : Latch → ℕ → ℕ → Latch

@@ -2,7 +2,7 @@
 ghost use mathlib.Core.Path.{_≡_};
 ghost use Prim.Native.Nat.{_≤_};
 ghost use Rattle.rules.specs.Areas.{fits, latchPlace};
-ghost use Rattle.rules.specs.Board.{Latch, board8};
+ghost use Rattle.rules.specs.Board.{Latch as LatchField, board8};
 ghost use Rattle.rules.specs.Control.{commitEntry, commitHorizon, written};
 ghost use Rattle.control.specs.Latches.{latchOf, latchWith, latchByte};
 use layout::ConnectionId;
@@ -98,7 +98,7 @@ const PORTS: u8 = Router::PORTS as u8;
 
 // Register 5: a horizon for each port in the latch's mask.
 fn commit_horizon(state: &mut [u8], horizon: u8)
-    ensures { λ _. ⌜ now (state .exit) ≡ commitHorizon board8 5 (board8 .get (now (state .entry)) (Latch, 3)) horizon (now (state .entry)) ⌝ }
+    ensures { λ _. ⌜ now (state .exit) ≡ commitHorizon board8 5 (board8 .get (now (state .entry)) (LatchField, 3)) horizon (now (state .entry)) ⌝ }
 {
     let latch = Latch::read(state);
     let mask = latch.horizons;

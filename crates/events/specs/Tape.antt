@@ -5,9 +5,8 @@ use mathlib.Core.List.{List, [], _∷_, _++_}
 use lib.ListN.{drop, set, replicate}
 use lib.Seq.{sets}
 use lib.Dec.{eqb}
-use Rattle.rules.specs.Areas.{Store, packetLength, arrivalsLength, outgoingLength, answersLength, byte}
+use Rattle.rules.specs.Areas.{Store, packetLength, arrivalsLength, outgoingLength, answersLength, byte, Outcome}
 use Rattle.rules.specs.Board.{clock, board8}
-use Rattle.rules.specs.Tick.{Outcome}
 use Rattle.rules.specs.Questions.{fresh, controlWrite, tick}
 use Rattle.records.specs.Records.{controlKind, arrivalKind, recordsIn, recordAt, recordRefusal}
 
@@ -33,10 +32,10 @@ pub record Taken : Type 0 where
   pub event : Event
 
 -- 43h, a control write: its register and value.
-abbrev pub afterControl : Tape → ℕ → Outcome → Taken
+abbrev pub afterControl : Tape → ℕ → Outcome Store → Taken
 afterControl σ k o =
     let n = o .reply .number in
-    record { tape = record { store = o .store; pending = σ .pending; records = σ .records; arrivals = σ .arrivals }; event = cond (eqb n 0) nothing (refused k n) }
+    record { tape = record { store = o .after; pending = σ .pending; records = σ .records; arrivals = σ .arrivals }; event = cond (eqb n 0) nothing (refused k n) }
 
 unfoldable pub takeControl : Tape → ℕ → List ℕ → Taken
 takeControl σ k r = afterControl σ k (controlWrite board8 (σ .store) (byte r 1) (byte r 2))
@@ -48,11 +47,11 @@ takeArrival σ k r =
     record { tape = record { store = σ .store; pending = σ .pending + 2 ^ p; records = set (σ .records) p k; arrivals = sets (σ .arrivals) (packetLength * p) (drop 4 r) }; event = nothing }
 
 -- 54h, a tick: a refused one keeps the waiting arrivals.
-abbrev pub afterTick : Tape → ℕ → Outcome → Taken
+abbrev pub afterTick : Tape → ℕ → Outcome Store → Taken
 afterTick σ k o =
     let n = o .reply .number in
     let t = ticked (σ .records) (board8 .get (σ .store .state) clock) (o .reply .outgoing) (o .reply .answers) in
-    record { tape = record { store = o .store; pending = cond (eqb n 0) 0 (σ .pending); records = σ .records; arrivals = σ .arrivals }; event = cond (eqb n 0) t (refused k n) }
+    record { tape = record { store = o .after; pending = cond (eqb n 0) 0 (σ .pending); records = σ .records; arrivals = σ .arrivals }; event = cond (eqb n 0) t (refused k n) }
 
 unfoldable pub takeTick : Tape → ℕ → List ℕ → Taken
 takeTick σ k r = afterTick σ k (tick board8 (σ .store) (σ .pending) (byte r 1) (σ .arrivals) (replicate outgoingLength 0) (replicate answersLength 0))

@@ -86,7 +86,7 @@ fn take_arrival(arrivals: &mut [u8], pending: Pending, number: u64, bytes: &[u8]
 fn after_tick(pending: Pending, clock: u8, number: u8) -> Taken
     ensures { λ r. ⌜ ((before after : Store) (arrivals out ans : List ℕ) (k : ℕ) → clock ≡ board8 .get (before .state) clockField →
         takenOf k (after .state) (after .memory) arrivals out ans r
-        ≡ Tape.afterTick (tapeOf (before .state) (before .memory) arrivals pending) k (record { reply = record { number = number; outgoing = out; answers = ans }; store = after })) ⌝ }
+        ≡ Tape.afterTick (tapeOf (before .state) (before .memory) arrivals pending) k (record { reply = record { number = number; outgoing = out; answers = ans }; after = after })) ⌝ }
 {
     if number != 0 {
         return Taken {

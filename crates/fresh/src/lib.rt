@@ -1,9 +1,8 @@
 // A fresh router, made in the lent state and memory.
 ghost use mathlib.Core.Path.{_≡_};
 ghost use lib.ListN.{length, replicate};
-ghost use Rattle.rules.specs.Areas.{numberReply};
+ghost use Rattle.rules.specs.Areas.{numberReply, Outcome, Store};
 ghost use Rattle.rules.specs.Board.{board8};
-ghost use Rattle.rules.specs.Tick.{Outcome};
 ghost use Rattle.rules.specs.Questions.{makeFresh};
 ghost use Rattle.passes.specs.Stores.{store};
 ghost use Rattle.layout.specs.Slots.{empty};
@@ -40,8 +39,8 @@ fn clear(area: &mut [u8])
 
 // Makes state and memory those of a fresh router.
 pub fn make_fresh(state: &mut [u8], memory: &mut [u8], clock: u8) -> u8
-    ensures { λ r. ⌜ _≡_ {A = Outcome}
-        (record { reply = numberReply r; store = store (now (state .exit)) (now (memory .exit)) })
+    ensures { λ r. ⌜ _≡_ {A = Outcome Store}
+        (record { reply = numberReply r; after = store (now (state .exit)) (now (memory .exit)) })
         (makeFresh board8 (store (now (state .entry)) (now (memory .entry))) clock) ⌝ }
 {
     if state.len() != Router::STATE {

@@ -5,10 +5,10 @@ use mathlib.Core.List.{List}
 use mathlib.Core.Logic.{_≢_}
 use lib.Dec.{leb}
 use borrow.Author.Tests.{ne-eqb, leb-true}
-use Rattle.rules.specs.Areas.{Store, numberReply}
+use Rattle.rules.specs.Areas.{Store, numberReply, Outcome}
 use Rattle.rules.specs.Board.{board8}
 use Rattle.rules.specs.Control.{written}
-use Rattle.rules.specs.Tick.{Outcome, ticked}
+use Rattle.rules.specs.Tick.{ticked}
 use Rattle.rules.specs.Questions.{full, sound, controlRefusal, controlWrite, tickRefusal, tick}
 use Rattle.rules.proofs.Booleans.{asked-passed}
 
@@ -24,22 +24,22 @@ module _ (r : Store) (register v : ℕ) where
       leb-true register 5 (asked-passed (leb register 5) 3 _ after-soundness .0)
 
   module _ (n : ℕ) (e : n ≡ controlRefusal board8 r register v) where
-    pub control-refused : n ≢ 0 → _≡_ {A = Outcome} (record { reply = numberReply n; store = r }) (controlWrite board8 r register v)
+    pub control-refused : n ≢ 0 → _≡_ {A = Outcome Store} (record { reply = numberReply n; after = r }) (controlWrite board8 r register v)
     unfolding controlWrite
     control-refused h = rw (← e, ne-eqb n 0 h)
 
-    pub control-accepted : n ≡ 0 → (s : List ℕ) → s ≡ written board8 register v (r .state) → _≡_ {A = Outcome} (record { reply = numberReply n; store = record { state = s; memory = r .memory } }) (controlWrite board8 r register v)
+    pub control-accepted : n ≡ 0 → (s : List ℕ) → s ≡ written board8 register v (r .state) → _≡_ {A = Outcome Store} (record { reply = numberReply n; after = record { state = s; memory = r .memory } }) (controlWrite board8 r register v)
     unfolding controlWrite
     control-accepted h s q = rw (← e, q, h)
 
 -- ---- a tick
 
 module _ (r : Store) (arriving waiting : ℕ) (area out ans : List ℕ) (n : ℕ) (e : n ≡ tickRefusal board8 r arriving waiting area out ans) where
-  pub tick-refused : n ≢ 0 → _≡_ {A = Outcome} (record { reply = record { number = n; outgoing = out; answers = ans }; store = r }) (tick board8 r arriving waiting area out ans)
+  pub tick-refused : n ≢ 0 → _≡_ {A = Outcome Store} (record { reply = record { number = n; outgoing = out; answers = ans }; after = r }) (tick board8 r arriving waiting area out ans)
   unfolding tick
   tick-refused h = rw (← e, ne-eqb n 0 h)
 
-  pub tick-accepted : n ≡ 0 → (out′ ans′ : List ℕ) (r′ : Store) → _≡_ {A = Outcome} (record { reply = record { number = 0; outgoing = out′; answers = ans′ }; store = r′ }) (ticked board8 r arriving waiting area)
-      → _≡_ {A = Outcome} (record { reply = record { number = n; outgoing = out′; answers = ans′ }; store = r′ }) (tick board8 r arriving waiting area out ans)
+  pub tick-accepted : n ≡ 0 → (out′ ans′ : List ℕ) (r′ : Store) → _≡_ {A = Outcome Store} (record { reply = record { number = 0; outgoing = out′; answers = ans′ }; after = r′ }) (ticked board8 r arriving waiting area)
+      → _≡_ {A = Outcome Store} (record { reply = record { number = n; outgoing = out′; answers = ans′ }; after = r′ }) (tick board8 r arriving waiting area out ans)
   unfolding tick
   tick-accepted h out′ ans′ r′ q = rw (← e, h) q

@@ -1,17 +1,16 @@
 // The router's entries: what the board firmware and the display software call.
 ghost use mathlib.Core.Path.{_≡_};
 ghost use lib.ListN.{take, drop};
-ghost use Rattle.rules.specs.Areas.{numberReply, display};
+ghost use Rattle.rules.specs.Areas.{numberReply, display, Outcome, Store};
 ghost use Rattle.rules.specs.Board.{board8};
-ghost use Rattle.rules.specs.Tick.{Outcome};
 ghost use Rattle.rules.specs.Questions.{makeFresh, controlWrite, tick};
 ghost use Rattle.display.specs.Start.{displayStart};
 
 // Makes state and memory those of a fresh router.
 #[no_mangle]
 pub extern "C" fn router_fresh(state: &mut [u8], memory: &mut [u8], clock: u8) -> u8
-    ensures { λ r. ⌜ _≡_ {A = Outcome}
-        (record { reply = numberReply r; store = record { state = now (state .exit); memory = now (memory .exit) } })
+    ensures { λ r. ⌜ _≡_ {A = Outcome Store}
+        (record { reply = numberReply r; after = record { state = now (state .exit); memory = now (memory .exit) } })
         (makeFresh board8 (record { state = now (state .entry); memory = now (memory .entry) }) clock) ⌝ }
 {
     fresh::make_fresh(state, memory, clock)
@@ -20,8 +19,8 @@ pub extern "C" fn router_fresh(state: &mut [u8], memory: &mut [u8], clock: u8) -
 // Writes a value to a control register.
 #[no_mangle]
 pub extern "C" fn router_control(state: &mut [u8], memory: &[u8], register: u8, value: u8) -> u8
-    ensures { λ r. ⌜ _≡_ {A = Outcome}
-        (record { reply = numberReply r; store = record { state = now (state .exit); memory = now (memory .entry) } })
+    ensures { λ r. ⌜ _≡_ {A = Outcome Store}
+        (record { reply = numberReply r; after = record { state = now (state .exit); memory = now (memory .entry) } })
         (controlWrite board8 (record { state = now (state .entry); memory = now (memory .entry) }) register value) ⌝ }
 {
     let number = questions::of_control(state, memory, register, value).number();
@@ -43,8 +42,8 @@ pub extern "C" fn router_tick(
     arriving: u8,
     waiting: u8,
 ) -> u8
-    ensures { λ r. ⌜ _≡_ {A = Outcome}
-        (record { reply = record { number = r; outgoing = now (outgoing .exit); answers = now (answers .exit) }; store = record { state = now (state .exit); memory = now (memory .exit) } })
+    ensures { λ r. ⌜ _≡_ {A = Outcome Store}
+        (record { reply = record { number = r; outgoing = now (outgoing .exit); answers = now (answers .exit) }; after = record { state = now (state .exit); memory = now (memory .exit) } })
         (tick board8 (record { state = now (state .entry); memory = now (memory .entry) }) arriving waiting (now (arrivals .entry)) (now (outgoing .entry)) (now (answers .entry))) ⌝ }
 {
     let n = questions::of_tick(

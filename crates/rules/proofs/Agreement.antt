@@ -9,16 +9,15 @@ use lib.ListN.{take, length-replicate}
 use lib.Dec.{leb, eqb}
 use borrow.Author.Tests.{eqb-true, leb-true}
 use Rattle.rules.specs.Account.{NotedTick, Kept, stored}
-use Rattle.rules.specs.Areas.{Store, Reply, numberReply, bits, fits, elem, distinct, asked}
+use Rattle.rules.specs.Areas.{Store, Reply, Outcome, numberReply, bits, fits, elem, distinct, asked}
 use Rattle.rules.specs.Board.{Board, Horizon, Latch, Idle, Mask, Outgoing, Delay, Routes, clock, free}
-use Rattle.rules.specs.Calls.{Step, Call, control, tick, refusal, refuse, accept, wholeStep, routerAfter, wholeReplies, ByteCall, TrueTimes, Proper}
+use Rattle.rules.specs.Calls.{Call, control, tick, afterAll, replies, refusal, refuse, accept, wholeStep, ByteCall, TrueTimes, Proper}
 use Rattle.rules.specs.Control.{written}
-use Rattle.rules.specs.Demand3.{noted, byteStep, storeAfter, byteReplies, history, PlaceShown, Shown, AfterCalls, Holds}
+use Rattle.rules.specs.Demand3.{noted, byteStep, history, PlaceShown, Shown, AfterCalls, Holds}
 use Rattle.rules.specs.Order.{all, count, counted, topFirst}
 use Rattle.rules.specs.Questions as Entry
 use Rattle.rules.specs.Questions.{sound, controlRefusal, tickRefusal, fresh, stack}
 use Rattle.rules.specs.Tick as Tick
-use Rattle.rules.specs.Tick.{Outcome}
 use Rattle.rules.specs.Whole.{Held, Router, TickCall, start, written as wholeWritten, ticked, isHeld}
 use Rattle.rules.proofs.BoardLaws.{Laws, freshField}
 use Rattle.rules.proofs.Booleans.{asked-passed, none-some}
@@ -75,11 +74,11 @@ module _ (B : Board) (L : Laws B) where
   -- ---- one call
 
   -- The two outcomes of a call at the router w agree, and what it notes makes a run.
-  pub record Agree (w : Router) (k : Call) (o : Outcome) (q : Step) : Type 0 where
-    pub rel : Rel B L (o .store) (q .router)
-    pub good : Good c (q .router)
+  pub record Agree (w : Router) (k : Call) (o : Outcome Store) (q : Outcome Router) : Type 0 where
+    pub rel : Rel B L (o .after) (q .after)
+    pub good : Good c (q .after)
     pub reply : o .reply ≡ q .reply
-    pub runs : {h : List NotedTick} {z : Router} → Run c (q .router) h z → Run c w (noted w k (o .reply .outgoing) (q .report) h) z
+    pub runs : {h : List NotedTick} {z : Router} → Run c (q .after) h z → Run c w (noted c w k (o .reply .outgoing) h) z
 
   module _ {r : Store} {w : Router} (R : Rel B L r w) (G : Good c w) where
     -- The first two questions are passed, so the others alone decide.
@@ -97,23 +96,23 @@ module _ (B : Board) (L : Laws B) where
     control-passed register v e = let (p, f) = asked-passed (leb register 5) 3 ((fits c register v, 5) ∷ []) e in (p, asked-passed (fits c register v) 4 [] f .0)
 
     -- An accepted call agrees, or a refused one.
-    decided : {k : Call} {o o′ : Outcome} {q q′ : Step} (a : Bool) → (a ≡ true → Agree w k o q) → Agree w k o′ q′ → Agree w k (cond a o o′) (cond a q q′)
+    decided : {k : Call} {o o′ : Outcome Store} {q q′ : Outcome Router} (a : Bool) → (a ≡ true → Agree w k o q) → (a ≡ false → Agree w k o′ q′) → Agree w k (cond a o o′) (cond a q q′)
     decided true f g = f refl
-    decided false f g = g
+    decided false f g = g refl
 
     -- An accepted call by the lemma of its kind, a refused one changes nothing in either router.
     pub agree : (k : Call) → ByteCall c k → TrueTimes c w k → Agree w k (byteStep B r k) (wholeStep c w k)
     unfolding byteStep Entry.controlWrite Entry.tick wholeStep accept refuse noted wholeWritten
-    agree (control register v) hb ht = rw (control-number register v) (decided (eqb (refusal c w (control register v)) 0) accepted (record { rel = R; good = G; reply = refl; runs = λ S. S }))
+    agree (control register v) hb ht = rw (control-number register v) (decided (eqb (refusal c w (control register v)) 0) accepted (λ e. record { rel = R; good = G; reply = refl; runs = λ S. S }))
       where
-        accepted : eqb (refusal c w (control register v)) 0 ≡ true → Agree w (control register v) (record { reply = numberReply 0; store = with-state B L r (written B register v (r .state)) }) (accept c w (control register v))
+        accepted : eqb (refusal c w (control register v)) 0 ≡ true → Agree w (control register v) (record { reply = numberReply 0; after = with-state B L r (written B register v (r .state)) }) (accept c w (control register v))
         accepted e =
             let (p, q) = control-passed register v (eqb-true (refusal c w (control register v)) 0 e) in
             let l = leb-true register 5 p in
             record { rel = written-rel B L R (G .kept) register v l q; good = written-good c w G register v l q; reply = refl; runs = λ S. quiet refl refl S }
-    agree (tick k out ans) hb ht = rw (tick-number k out ans) (decided (eqb (refusal c w (tick k out ans)) 0) accepted (record { rel = R; good = G; reply = refl; runs = λ S. S }))
+    agree (tick k out ans) hb ht = rw (tick-number k out ans) (decided (eqb (refusal c w (tick k out ans)) 0) accepted (λ e. record { rel = R; good = G; reply = refl; runs = λ S. rw e S }))
       where
-        t : Outcome
+        t : Outcome Store
         t = Tick.ticked B r (k .arriving) (k .bestEffort) (k .arrivals)
 
         d : NotedTick
@@ -123,20 +122,20 @@ module _ (B : Board) (L : Laws B) where
         accepted e =
             let I = input-of c w k out ans hb ht (eqb-true (refusal c w (tick k out ans)) 0 e) in
             let u : Ticking c d = record { good = G; input = I; report = refl; sends = sends-same B L R G k I } in
-            record { rel = tick-rel B L R G k I; good = next-good c u; reply = reply-same B L R G k I; runs = λ S. ticks d u S }
+            record { rel = tick-rel B L R G k I; good = next-good c u; reply = reply-same B L R G k I; runs = λ S. rw e (ticks d u S) }
 
   -- ---- a list of calls
 
   -- The two runs agree: relation, replies, and what was noted makes a run.
   pub record Agreed (r : Store) (w : Router) (ks : List Call) : Type 0 where
-    pub rel : Rel B L (storeAfter B r ks) (routerAfter c w ks)
-    pub good : Good c (routerAfter c w ks)
-    pub replies : byteReplies B r ks ≡ wholeReplies c w ks
-    pub run : Run c w (history B r w ks) (routerAfter c w ks)
+    pub rel : Rel B L (afterAll (byteStep B) r ks) (afterAll (wholeStep c) w ks)
+    pub good : Good c (afterAll (wholeStep c) w ks)
+    pub replies : replies (byteStep B) r ks ≡ replies (wholeStep c) w ks
+    pub run : Run c w (history B r w ks) (afterAll (wholeStep c) w ks)
 
   -- Call by call.
   pub agreed : (ks : List Call) {r : Store} {w : Router} → Rel B L r w → Good c w → Proper c w ks → Agreed r w ks
-  unfolding storeAfter routerAfter byteReplies wholeReplies history Proper
+  unfolding afterAll replies history Proper
   agreed [] R G P = record { rel = R; good = G; replies = refl; run = rest G }
   agreed (k ∷ ks) R G P =
       let a = agree R G k (P .0) (P .1) in
@@ -169,7 +168,7 @@ module _ (B : Board) (L : Laws B) where
   unfolding Proper
   proper-take zero ks w P = tt
   proper-take (suc n) [] w P = tt
-  proper-take (suc n) (k ∷ ks) w P = (P .0, P .1, proper-take n ks (wholeStep c w k .router) (P .2))
+  proper-take (suc n) (k ∷ ks) w P = (P .0, P .1, proper-take n ks (wholeStep c w k .after) (P .2))
 
   -- The whole claim for one list.
   after-calls : (t : ℕ) → t < 2 ^ bits c → (ks : List Call) → Proper c (start t) ks → AfterCalls B t ks

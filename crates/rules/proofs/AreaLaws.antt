@@ -9,7 +9,7 @@ use native.Mathlib.Omega.{arith}
 use lib.Pow.{pow-add}
 use lib.ListN.{length, take, drop, set, length-append, length-take, length-drop, take-append-drop, drop-of-length-le}
 use lib.Seq.{set-set, set-comm, getD-set-other, sets, length-sets, sets-eq, getD-take, getD-drop, ext-getD, take-at, drop-at, length-take-le, take-append-le, drop-append-le, drop-append-add, drop-drop, take-all}
-use Rattle.rules.specs.Areas.{byte, Bytes, low, bits, value, digits, packet, stamp, payload, packed, portsBelow, perPort}
+use Rattle.rules.specs.Areas.{byte, Bytes, bits, value, digits, packet, stamp, payload, packed, portsBelow, perPort}
 
 -- ---- a run of stores
 
@@ -150,7 +150,7 @@ byte-bits (suc c) =
 
 -- A clock reading of c bytes has all their bits.
 pub full-bits : (c : ℕ) → 0 < c → 256 ^ c ≡ 2 ^ bits c
-unfolding bits low
+unfolding bits
 full-bits c h = byte-bits c ∙ ap (λ (n : ℕ). 2 ^ n) (omega arith)
 
 -- A packed packet has 20 bytes.

@@ -1,11 +1,11 @@
 -- Any bytes have true times: the clock and the offset of the header's time. So what demand 3 asks of the calls can always be met. Assumes nothing.
-use Prim.Native.Nat.{ℕ, _*_, _^_, _<_}
+use Prim.Native.Nat.{ℕ, _*_, _^_, _<_, _-_}
 use mathlib.Core.Path.{_≡_, refl, sym, ap, subst, _∙_}
 use mathlib.Core.List.{List, [], _∷_, List·Memᴰ, List·Memᴰ·head, List·Memᴰ·tail}
 use native.Mathlib.Omega.{arith}
 use lib.ListN.{length, take, drop}
 use lib.IntN.{ℤ, pos, _+ℤ_, _-ℤ_}
-use Rattle.rules.specs.Areas.{Bytes, low, bits, half, value, packet, stamp}
+use Rattle.rules.specs.Areas.{Bytes, bits, half, value, packet, stamp}
 use Rattle.rules.specs.Calls.{Call, control, tick, wholeStep, ByteCall, TrueTime, TrueTimes, Proper, trueTimes, fed, feed}
 use Rattle.rules.specs.Clock.{cut, minus, signed, offset}
 use Rattle.rules.specs.Demand3.{Feedable}
@@ -38,21 +38,21 @@ module _ (c : ℕ) (some-bytes : 0 < c) (few-bytes : c < 20) where
       let t = cut (bits c) (r .clock) in
       let u : k .times p ≡ r .clock +ℤ offset (bits c) x t = ap (λ f. f p) et in
       let o : k .times p -ℤ r .clock ≡ signed (bits c) (minus (bits c) x t) = ap (λ (z : ℤ). z -ℤ r .clock) u ∙ sum-diff (r .clock) (offset (bits c) x t) in
-      let (e′, s, from, to) = signed-view (low c) (minus (bits c) x t) (minus-lt (bits c) x t) in
+      let (e′, s, from, to) = signed-view (8 * c - 1) (minus (bits c) x t) (minus-lt (bits c) x t) in
       record {
         from = record { le = rw o (omega (arith, orders, neg-nat (pos (half c)))) };
         to = record { lt = rw o (omega (arith, orders)) };
-        header = cut-back (low c) (r .clock) x (stamp-lt (k .arrivals) p e hp h) ∙ ap (cut (bits c)) (sym u);
+        header = cut-back (8 * c - 1) (r .clock) x (stamp-lt (k .arrivals) p e hp h) ∙ ap (cut (bits c)) (sym u);
       }
 
   -- By induction over the calls.
   pub feed-proper : (ks : List Call) (r : Router) → ((k : Call) → List·Memᴰ k ks → ByteCall c k) → Proper c r (feed c r ks)
   unfolding Proper feed fed ByteCall TrueTimes
   feed-proper [] r h = tt
-  feed-proper (control register v ∷ ks) r h = (h (control register v) (List·Memᴰ·head refl), tt, feed-proper ks (wholeStep c r (control register v) .router) (λ k m. h k (List·Memᴰ·tail m)))
+  feed-proper (control register v ∷ ks) r h = (h (control register v) (List·Memᴰ·head refl), tt, feed-proper ks (wholeStep c r (control register v) .after) (λ k m. h k (List·Memᴰ·tail m)))
   feed-proper (tick k out ans ∷ ks) r h =
       let b = h (tick k out ans) (List·Memᴰ·head refl) in
-      (b, λ e p hp q. true-time r k′ refl (whole-area c r k′ out ans e) (b .2) p hp, feed-proper ks (wholeStep c r (tick k′ out ans) .router) (λ k m. h k (List·Memᴰ·tail m)))
+      (b, λ e p hp q. true-time r k′ refl (whole-area c r k′ out ans e) (b .2) p hp, feed-proper ks (wholeStep c r (tick k′ out ans) .after) (λ k m. h k (List·Memᴰ·tail m)))
     where
       k′ : TickCall
       k′ = record { arriving = k .arriving; bestEffort = k .bestEffort; arrivals = k .arrivals; times = trueTimes c (r .clock) (k .arrivals) }

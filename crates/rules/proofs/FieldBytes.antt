@@ -6,7 +6,7 @@ use native.Mathlib.Nat.{add-zero, add-suc, suc-add}
 use native.Mathlib.Omega.{arith}
 use lib.ListN.{length, take, drop, set}
 use lib.Seq.{sets, set-getD, getD-take, getD-drop}
-use Rattle.rules.specs.Areas.{value, digits, byte, packet, stamp, payload, packed, low, half}
+use Rattle.rules.specs.Areas.{value, digits, byte, packet, stamp, payload, packed, half}
 use Rattle.rules.specs.Board.{Field, getAt, putAt}
 
 -- ---- numbers of one byte and of two
@@ -81,7 +81,7 @@ unfolding stamp
 stamp-one k = value-one 1 k
 
 pub half-one : half 1 ≡ 128
-unfolding half low
+unfolding half
 half-one = refl
 
 pub packed-one : (identifier v : ℕ) (k : List ℕ) → packed 1 identifier v (payload 1 k) ≡ identifier ∷ v ∷ drop 2 k

@@ -11,7 +11,7 @@ use lib.IntN.{ℤ, pos, negsuc, negℤ}
 use lib.Signed.{leZ, ltZ}
 use borrow.Author.Tests.{lt-ltb, le-ltb, lt-leb, le-leb, eq-eqb, ne-eqb}
 use Rattle.rules.specs.Clock.{plus, minus, signed, offset}
-use Rattle.rules.specs.Areas.{low, bits, half}
+use Rattle.rules.specs.Areas.{bits, half}
 use Rattle.rules.proofs.ClockLaws.{turns, pow-double, minus-view, minus-lt}
 
 -- At least - d.
@@ -77,11 +77,11 @@ module _ (c a t x : ℕ) (e : x ≡ minus (bits c) a t) where
 
   pub offset-at-most-0 : leZ (offset (bits c) a t) (pos 0) ≡ (eqb x 0 || leb (half c) x)
   unfolding bits half
-  offset-at-most-0 = rw offset-signed (at-most-0 (low c) x difference-lt)
+  offset-at-most-0 = rw offset-signed (at-most-0 (8 * c - 1) x difference-lt)
 
   pub offset-at-least : (d : ℕ) → leZ (negℤ (pos d)) (offset (bits c) a t) ≡ (ltb x (half c) || leb (2 ^ bits c - x) d)
   unfolding bits half
-  offset-at-least d = rw offset-signed (at-least (low c) x difference-lt d)
+  offset-at-least d = rw offset-signed (at-least (8 * c - 1) x difference-lt d)
 
 -- ---- the window of a stored packet's time
 
@@ -141,7 +141,7 @@ pub offset-window : (c x t d y w : ℕ) → 2 ≤ half c → x < 2 ^ bits c → 
     → ltb w (d + (half c - 1)) ≡ (leZ (negℤ (pos d)) (offset (bits c) x t) && leZ (offset (bits c) x t) (pos (half c - 2)))
 unfolding offset bits half
 offset-window c x t d y w n hx ht hd p e =
-    let k = low c in
+    let k = 8 * c - 1 in
     let z = minus (suc k) x t in
     let l : d < 2 ^ suc k = omega (arith, pow-double k) in
     rw (e, p, at-least k z (minus-lt (suc k) x t) d, at-near k z n (minus-lt (suc k) x t))

@@ -153,7 +153,7 @@ module _ (B : Board) (L : Laws B) where
       R₄ = ended-rel B L R₂ K₂ F₂ (r₁ .state) was
 
       -- A tick keeps the relation: the last step stores the clock alone.
-      pub tick-rel : Rel B L (Tick.ticked B r (call .arriving) b (call .arrivals) .store) (Whole.ticked c w call .router)
+      pub tick-rel : Rel B L (Tick.ticked B r (call .arriving) b (call .arrivals) .after) (Whole.ticked c w call .router)
       unfolding Tick.ticked Whole.ticked
       tick-rel =
           let v = plus (bits c) (get s₄ clock) 1 in

@@ -1,5 +1,5 @@
 -- A packet's times cut to clock readings, against its whole-number times. Assumes nothing.
-use Prim.Native.Nat.{ℕ, suc, _+_, _*_, _%_, _^_, _<_}
+use Prim.Native.Nat.{ℕ, suc, _+_, _*_, _%_, _^_, _<_, _-_}
 use mathlib.Core.Path.{_≡_, refl, sym, ap, subst, _∙_}
 use mathlib.Core.Bool.{Bool, true, false, _&&_}
 use native.Mathlib.Nat.{mod-eq-of-lt, add-mul-mod-self-right}
@@ -9,7 +9,7 @@ use lib.Dec.{T, eqb}
 use lib.IntN.{ℤ, pos, negℤ, sucℤ, _+ℤ_, _-ℤ_, +ℤ-one}
 use lib.Signed.{leZ, ltZ}
 use borrow.Author.Tests.{eq-eqb, ne-eqb}
-use Rattle.rules.specs.Areas.{low, bits, half}
+use Rattle.rules.specs.Areas.{bits, half}
 use Rattle.rules.specs.Clock.{cut, plus, minus, signed, offset}
 use Rattle.rules.specs.Whole.{Packet, isDue}
 use Rattle.rules.proofs.ClockLaws.{turns, pow-double, cut-view, minus-view, signed-view, offset-true, key-true}
@@ -79,7 +79,7 @@ module _ (c : ℕ) (u t : ℤ) where
   -- The offset of a true time.
   pub offset-is : T (leZ (negℤ (pos (half c))) (u -ℤ t)) → T (ltZ (u -ℤ t) (pos (half c))) → offset (bits c) (cut (bits c) u) (cut (bits c) t) ≡ u -ℤ t
   unfolding half bits
-  offset-is from to = offset-true (low c) u t (record { le = from }) (record { lt = to })
+  offset-is from to = offset-true (8 * c - 1) u t (record { le = from }) (record { lt = to })
 
   -- The key of a time from the clock on, less than a turn ahead.
   key-is : T (leZ t u) → T (ltZ (u -ℤ t) (pos (2 ^ bits c))) → pos (minus (bits c) (cut (bits c) u) (cut (bits c) t)) ≡ u -ℤ t
@@ -88,12 +88,12 @@ module _ (c : ℕ) (u t : ℤ) where
 -- A turn is two halves.
 turn : (c : ℕ) → 2 ^ bits c ≡ half c + half c
 unfolding half bits
-turn c = pow-double (low c)
+turn c = pow-double (8 * c - 1)
 
 -- The half is not 0.
 pub half-pos : (c : ℕ) → 0 < half c
 unfolding half
-half-pos c = pow-pos (low c)
+half-pos c = pow-pos (8 * c - 1)
 
 module _ (c : ℕ) (t : ℤ) (x : Packet) (F : InWindow c t (half c) x) where
   -- Its deadline is its time and the delay.

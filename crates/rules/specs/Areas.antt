@@ -20,6 +20,11 @@ pub record Reply : Type 0 where
 abbrev pub numberReply : ℕ → Reply
 numberReply n = record { number = n; outgoing = []; answers = [] }
 
+-- What a call gives, and leaves of the router that it is made to.
+pub record Outcome (R : Type 0) : Type 0 where
+  pub reply : Reply
+  pub after : R
+
 -- Lengths: of a packet, and of each area but the state, whose length is the board's.
 abbrev pub packetLength : ℕ
 packetLength = 20
@@ -44,14 +49,11 @@ unfoldable pub Bytes : List ℕ → Type 0
 Bytes l = (i : ℕ) → i < length l → byte l i < 256
 
 -- The bits of a clock reading of c bytes, and the bound of delays and horizons: 8 and 128 for one byte.
-unfoldable pub low : ℕ → ℕ
-low c = 8 * c - 1
-
 unfoldable pub bits : ℕ → ℕ
-bits c = suc (low c)
+bits c = suc (8 * c - 1)
 
 unfoldable pub half : ℕ → ℕ
-half c = 2 ^ low c
+half c = 2 ^ (8 * c - 1)
 
 -- The number that bytes make, high first, and the k bytes of a number.
 unfoldable pub value : List ℕ → ℕ

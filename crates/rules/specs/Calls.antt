@@ -3,24 +3,27 @@ use Prim.Native.Nat.{ℕ, _^_, _<_}
 use mathlib.Core.Path.{_≡_}
 use mathlib.Core.Bool.{true, cond}
 use mathlib.Core.List.{List, [], _∷_}
-use mathlib.Core.Option.{Option, none, some}
 use lib.Dec.{eqb}
 use lib.IntN.{ℤ, pos, negℤ, _+ℤ_, _-ℤ_}
 use lib.Signed.{_≤ℤ_, _<ℤ_}
 use Rattle.rules.specs.Clock.{cut, offset}
-use Rattle.rules.specs.Areas.{Reply, numberReply, areasFull, Bytes, bits, half, packet, stamp, has, asked, controlQuestions, tickQuestions}
-use Rattle.rules.specs.Whole.{Router, TickCall, Report, written, ticked, outgoingBytes, answerBytes}
+use Rattle.rules.specs.Areas.{Reply, Outcome, numberReply, areasFull, Bytes, bits, half, packet, stamp, has, asked, controlQuestions, tickQuestions}
+use Rattle.rules.specs.Whole.{Router, TickCall, written, ticked, outgoingBytes, answerBytes}
 
 -- A call as the firmware makes it: a control write, or a tick with the outgoing and answers areas that it is lent.
 pub data Call : Type 0 where
   control : ℕ → ℕ → Call
   tick : TickCall → List ℕ → List ℕ → Call
 
--- What a call does; `report` is an accepted tick's.
-pub record Step : Type 0 where
-  pub reply : Reply
-  pub router : Router
-  pub report : Option Report
+-- A list of calls, where each does `step`: what they leave, and their replies.
+module _ {R : Type 0} (step : R → Call → Outcome R) where
+  unfoldable pub afterAll : R → List Call → R
+  afterAll r [] = r
+  afterAll r (k ∷ ks) = afterAll (step r k .after) ks
+
+  unfoldable pub replies : R → List Call → List Reply
+  replies r [] = []
+  replies r (k ∷ ks) = let o = step r k in o .reply ∷ replies (o .after) ks
 
 module _ (c : ℕ) where
   -- The number of a call to the router r: every question but whether the state is sound. Of outgoing and answers it sees the lengths.
@@ -28,27 +31,19 @@ module _ (c : ℕ) where
   refusal r (control register v) = asked (controlQuestions c register v)
   refusal r (tick k out ans) = asked ((areasFull (k .arrivals) out ans, 1) ∷ tickQuestions (k .arriving) (k .bestEffort))
 
-  unfoldable pub accept : Router → Call → Step
-  accept r (control register v) = record { reply = numberReply 0; router = written register v r; report = none }
+  unfoldable pub accept : Router → Call → Outcome Router
+  accept r (control register v) = record { reply = numberReply 0; after = written register v r }
   accept r (tick k out ans) =
       let t = ticked c r k in
-      record { reply = record { number = 0; outgoing = outgoingBytes c (t .report); answers = answerBytes (t .report) }; router = t .router; report = some (t .report) }
+      record { reply = record { number = 0; outgoing = outgoingBytes c (t .report); answers = answerBytes (t .report) }; after = t .router }
 
   -- A refused call changes nothing, and leaves outgoing and answers as they were.
-  unfoldable pub refuse : Router → Call → ℕ → Step
-  refuse r (control register v) n = record { reply = numberReply n; router = r; report = none }
-  refuse r (tick k out ans) n = record { reply = record { number = n; outgoing = out; answers = ans }; router = r; report = none }
+  unfoldable pub refuse : Router → Call → ℕ → Outcome Router
+  refuse r (control register v) n = record { reply = numberReply n; after = r }
+  refuse r (tick k out ans) n = record { reply = record { number = n; outgoing = out; answers = ans }; after = r }
 
-  unfoldable pub wholeStep : Router → Call → Step
+  unfoldable pub wholeStep : Router → Call → Outcome Router
   wholeStep r k = let n = refusal r k in cond (eqb n 0) (accept r k) (refuse r k n)
-
-  unfoldable pub routerAfter : Router → List Call → Router
-  routerAfter r [] = r
-  routerAfter r (k ∷ ks) = routerAfter (wholeStep r k .router) ks
-
-  unfoldable pub wholeReplies : Router → List Call → List Reply
-  wholeReplies r [] = []
-  wholeReplies r (k ∷ ks) = let o = wholeStep r k in o .reply ∷ wholeReplies (o .router) ks
 
   -- What is asked of a call: masks, registers and what the areas hold are bytes; a value is as wide as a clock reading.
   unfoldable pub ByteCall : Call → Type 0
@@ -68,7 +63,7 @@ module _ (c : ℕ) where
 
   unfoldable pub Proper : Router → List Call → Type 0
   Proper r [] = Unit {0}
-  Proper r (k ∷ ks) = ByteCall k × TrueTimes r k × Proper (wholeStep r k .router) ks
+  Proper r (k ∷ ks) = ByteCall k × TrueTimes r k × Proper (wholeStep r k .after) ks
 
   -- True times that any bytes can be given: the clock and the offset of the header's time.
   unfoldable pub trueTimes : ℤ → List ℕ → ℕ → ℤ
@@ -80,4 +75,4 @@ module _ (c : ℕ) where
 
   unfoldable pub feed : Router → List Call → List Call
   feed r [] = []
-  feed r (k ∷ ks) = let k′ = fed r k in k′ ∷ feed (wholeStep r k′ .router) ks
+  feed r (k ∷ ks) = let k′ = fed r k in k′ ∷ feed (wholeStep r k′ .after) ks

@@ -1,49 +1,39 @@
 -- Demand 3: any list of calls from a fresh router, run by both routers. Assumes nothing.
 use Prim.Native.Nat.{ℕ, _+_, _^_, _≤_, _<_}
 use mathlib.Core.Path.{_≡_}
-use mathlib.Core.Bool.{true}
+use mathlib.Core.Bool.{true, cond}
 use mathlib.Core.List.{List, [], _∷_, List·Memᴰ}
 use mathlib.Core.Option.{Option, none, some}
 use lib.ListN.{length, take}
+use lib.Dec.{eqb}
 use Rattle.rules.specs.Clock.{cut}
-use Rattle.rules.specs.Areas.{Store, Reply, bits, packet}
+use Rattle.rules.specs.Areas.{Store, Outcome, bits, packet}
 use Rattle.rules.specs.Board.{Board, Horizon, Latch, Time, Deadline, Mask, Outgoing, Delay, Routes, clock, free, board8}
 use Rattle.rules.specs.Questions as Entry
 use Rattle.rules.specs.Questions.{fresh, stack, sound}
-use Rattle.rules.specs.Tick.{Outcome}
-use Rattle.rules.specs.Whole.{Router, Held, Report, start, packetBytes}
-use Rattle.rules.specs.Calls.{Call, control, tick, wholeStep, routerAfter, wholeReplies, ByteCall, Proper, feed}
+use Rattle.rules.specs.Whole.{Router, Held, ticked, start, packetBytes}
+use Rattle.rules.specs.Calls.{Call, control, tick, afterAll, replies, refusal, wholeStep, ByteCall, Proper, feed}
 use Rattle.rules.specs.Account.{NotedTick, stored, Accounts}
 
 -- An accepted tick is noted, a refused one and a control write are not.
-unfoldable pub noted : Router → Call → List ℕ → Option Report → List NotedTick → List NotedTick
-noted r (control register v) out t l = l
-noted r (tick k o a) out none l = l
-noted r (tick k o a) out (some t) l = record { met = r; call = k; report = t; outgoing = out } ∷ l
+unfoldable pub noted : ℕ → Router → Call → List ℕ → List NotedTick → List NotedTick
+noted c r (control register v) out l = l
+noted c r (tick k o a) out l = cond (eqb (refusal c r (tick k o a)) 0) (record { met = r; call = k; report = ticked c r k .report; outgoing = out } ∷ l) l
 
 module _ (B : Board) where
   open Board B using (clockBytes as c, get)
 
   -- The run of the router over bytes: `controlWrite` and `tick` (Questions) are the very constants that the promises of the exported entries cite, and `fresh` is the store that `makeFresh` leaves.
-  unfoldable pub byteStep : Store → Call → Outcome
+  unfoldable pub byteStep : Store → Call → Outcome Store
   byteStep r (control register v) = Entry.controlWrite B r register v
   byteStep r (tick k out ans) = Entry.tick B r (k .arriving) (k .bestEffort) (k .arrivals) out ans
-
-  unfoldable pub storeAfter : Store → List Call → Store
-  storeAfter r [] = r
-  storeAfter r (k ∷ ks) = storeAfter (byteStep r k .store) ks
-
-  unfoldable pub byteReplies : Store → List Call → List Reply
-  byteReplies r [] = []
-  byteReplies r (k ∷ ks) = let o = byteStep r k in o .reply ∷ byteReplies (o .store) ks
 
   -- The accepted ticks, each with what the router that never turns over did and the outgoing area of the router over bytes.
   unfoldable pub history : Store → Router → List Call → List NotedTick
   history r w [] = []
   history r w (k ∷ ks) =
       let b = byteStep r k in
-      let o = wholeStep c w k in
-      noted w k (b .reply .outgoing) (o .report) (history (b .store) (o .router) ks)
+      noted c w k (b .reply .outgoing) (history (b .after) (wholeStep c w k .after) ks)
 
   -- State and memory show the places.
   pub record HeldShown (r : Store) (i : ℕ) (x : Held) : Type 0 where
@@ -70,10 +60,10 @@ module _ (B : Board) where
 
   -- After the calls ks on a router fresh at the clock reading t.
   pub record AfterCalls (t : ℕ) (ks : List Call) : Type 0 where
-    pub replies : byteReplies (fresh B t) ks ≡ wholeReplies c (start t) ks
-    pub sound : sound B (storeAfter (fresh B t) ks) ≡ true
-    pub shown : Shown (storeAfter (fresh B t) ks) (routerAfter c (start t) ks)
-    pub accounts : Accounts c (history (fresh B t) (start t) ks) (routerAfter c (start t) ks)
+    pub replies : replies byteStep (fresh B t) ks ≡ replies (wholeStep c) (start t) ks
+    pub sound : sound B (afterAll byteStep (fresh B t) ks) ≡ true
+    pub shown : Shown (afterAll byteStep (fresh B t) ks) (afterAll (wholeStep c) (start t) ks)
+    pub accounts : Accounts c (history (fresh B t) (start t) ks) (afterAll (wholeStep c) (start t) ks)
 
   -- At every clock reading, for every proper list, after each of its calls.
   unfoldable pub Holds : Type 0

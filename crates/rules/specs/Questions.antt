@@ -8,10 +8,10 @@ use lib.IntN.{pos, negℤ}
 use lib.Signed.{leZ}
 use Rattle.rules.specs.Clock.{minus, offset}
 use Rattle.rules.specs.Order.{all, count, topFirst}
-use Rattle.rules.specs.Areas.{Store, numberReply, memoryLength, areasFull, bits, half, packet, stamp, elem, distinct, asked, controlQuestions, tickQuestions}
+use Rattle.rules.specs.Areas.{Store, Outcome, numberReply, memoryLength, areasFull, bits, half, packet, stamp, elem, distinct, asked, controlQuestions, tickQuestions}
 use Rattle.rules.specs.Board.{Board, Horizon, Latch, Idle, Time, Deadline, Mask, Delay, Routes, clock, free}
 use Rattle.rules.specs.Control.{written}
-use Rattle.rules.specs.Tick.{Outcome, ticked}
+use Rattle.rules.specs.Tick.{ticked}
 
 module _ (B : Board) where
   open Board B using (clockBytes as c, stateLength, get, freshState)
@@ -77,15 +77,15 @@ module _ (B : Board) where
   unfoldable pub fresh : ℕ → Store
   fresh t = record { state = freshState t; memory = replicate memoryLength 0 }
 
-  unfoldable pub makeFresh : Store → ℕ → Outcome
-  makeFresh r t = cond (full r) (record { reply = numberReply 0; store = fresh t }) (record { reply = numberReply 1; store = r })
+  unfoldable pub makeFresh : Store → ℕ → Outcome Store
+  makeFresh r t = cond (full r) (record { reply = numberReply 0; after = fresh t }) (record { reply = numberReply 1; after = r })
 
-  unfoldable pub controlWrite : Store → ℕ → ℕ → Outcome
+  unfoldable pub controlWrite : Store → ℕ → ℕ → Outcome Store
   controlWrite r register v =
       let n = controlRefusal r register v in
-      cond (eqb n 0) (record { reply = numberReply 0; store = record { state = written B register v (r .state); memory = r .memory } }) (record { reply = numberReply n; store = r })
+      cond (eqb n 0) (record { reply = numberReply 0; after = record { state = written B register v (r .state); memory = r .memory } }) (record { reply = numberReply n; after = r })
 
-  unfoldable pub tick : Store → ℕ → ℕ → List ℕ → List ℕ → List ℕ → Outcome
+  unfoldable pub tick : Store → ℕ → ℕ → List ℕ → List ℕ → List ℕ → Outcome Store
   tick r arriving waiting area out ans =
       let n = tickRefusal r arriving waiting area out ans in
-      cond (eqb n 0) (ticked B r arriving waiting area) (record { reply = record { number = n; outgoing = out; answers = ans }; store = r })
+      cond (eqb n 0) (ticked B r arriving waiting area) (record { reply = record { number = n; outgoing = out; answers = ans }; after = r })

@@ -9,7 +9,7 @@ use lib.IntN.{pos, negℤ}
 use lib.Signed.{ltZ, leZ}
 use Rattle.rules.specs.Clock.{plus, minus, offset}
 use Rattle.rules.specs.Order.{Key, comparator, least, count}
-use Rattle.rules.specs.Areas.{Store, Reply, packetLength, byte, bits, packet, stamp, payload, packed, has, without, perPort, Grant, nobody, bestEffort, onTime, early, grantCode, noPacket, answersArea, asked, arrivalQuestions, arrivalAnswer}
+use Rattle.rules.specs.Areas.{Store, Outcome, packetLength, byte, bits, packet, stamp, payload, packed, has, without, perPort, Grant, nobody, bestEffort, onTime, early, grantCode, noPacket, answersArea, asked, arrivalQuestions, arrivalAnswer}
 use Rattle.rules.specs.Board.{Board, Horizon, Idle, Time, Deadline, Mask, Outgoing, Delay, Routes, clock, free}
 
 -- From the winner and its key, best-effort's wait and the horizon.
@@ -23,11 +23,6 @@ grantBytes m nobody = noPacket
 grantBytes m bestEffort = noPacket
 grantBytes m (onTime i) = packet m i
 grantBytes m (early i) = packet m i
-
--- What a call gives and leaves.
-pub record Outcome : Type 0 where
-  pub reply : Reply
-  pub store : Store
 
 module _ (B : Board) where
   open Board B using (clockBytes as c, get, put)
@@ -119,7 +114,7 @@ module _ (B : Board) where
   abbrev pub advanced : List ℕ → List ℕ
   advanced s = put s clock (plus (bits c) (get s clock) 1)
 
-  unfoldable pub ticked : Store → ℕ → ℕ → List ℕ → Outcome
+  unfoldable pub ticked : Store → ℕ → ℕ → List ℕ → Outcome Store
   ticked r arriving waiting area =
       let r₁ = arrived 5 arriving area r in
       let s₃ = served 5 waiting (r₁ .state) in
@@ -130,5 +125,5 @@ module _ (B : Board) where
           outgoing = perPort (λ p. grantBytes (r₁ .memory) (g p));
           answers = answersArea (λ p. grantCode (g p)) (λ p. arrival (arrived p arriving area r .state) arriving p (packet area p)) (withdrawals s₃);
         };
-        store = record { state = advanced (returned 256 (r₁ .state) (withdrawn 256 s₃)); memory = r₁ .memory };
+        after = record { state = advanced (returned 256 (r₁ .state) (withdrawn 256 s₃)); memory = r₁ .memory };
       }

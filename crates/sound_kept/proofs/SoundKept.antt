@@ -12,13 +12,12 @@ use lib.Dec.{eqb}
 use lib.IntN.{pos, _+ℤ_}
 use borrow.Author.Tests.{eqb-true, eqb-false}
 use Rattle.rules.specs.Account.{Kept, stored}
-use Rattle.rules.specs.Areas.{Store, Bytes, byte, low, bits, half, packet, payload, packed}
+use Rattle.rules.specs.Areas.{Store, Bytes, byte, bits, half, packet, payload, packed, Outcome}
 use Rattle.rules.specs.Board.{Board, Horizon, Latch, Idle, Time, Deadline, Mask, Outgoing, Delay, Routes, clock, free, board8}
-use Rattle.rules.specs.Calls.{Call, control, tick, fed, feed, wholeStep}
+use Rattle.rules.specs.Calls.{Call, control, tick, fed, feed, wholeStep, afterAll}
 use Rattle.rules.specs.Clock.{cut, plus, offset}
-use Rattle.rules.specs.Demand3.{HeldShown, byteStep, storeAfter}
+use Rattle.rules.specs.Demand3.{HeldShown, byteStep}
 use Rattle.rules.specs.Questions.{full, sound, stack, occupied}
-use Rattle.rules.specs.Tick.{Outcome}
 use Rattle.sound_kept.specs.SoundKept.{Intact, SoundKept}
 use Rattle.rules.specs.Whole.{Packet, Held, Router, packetBytes, isHeld}
 use Rattle.rules.proofs.BoardLaws.{Laws}
@@ -103,7 +102,7 @@ module _ (B : Board) (L : Laws B) where
         time-lt = reading (L .get-lt s (Time, i) bs sized l)
 
         time-cut : get s (Time, i) ≡ cut (bits c) (packetOf r i .time)
-        time-cut = subst (λ (t : ℕ). get s (Time, i) ≡ cut (bits c) (pos (get s clock) +ℤ offset (bits c) (get s (Time, i)) t)) (cut-pos (bits c) (get s clock) clock-lt) (cut-back (low c) (pos (get s clock)) (get s (Time, i)) time-lt)
+        time-cut = subst (λ (t : ℕ). get s (Time, i) ≡ cut (bits c) (pos (get s clock) +ℤ offset (bits c) (get s (Time, i)) t)) (cut-pos (bits c) (get s clock) clock-lt) (cut-back (8 * c - 1) (pos (get s clock)) (get s (Time, i)) time-lt)
 
         deadline-cut : get s (Deadline, i) ≡ cut (bits c) (packetOf r i .deadline)
         deadline-cut =
@@ -153,7 +152,7 @@ module _ (B : Board) (L : Laws B) where
 
     -- Half a turn is more than one.
     half-two : 2 ≤ half c
-    unfolding half low
+    unfolding half
     half-two =
         let k : 8 * c - 1 ≡ suc (8 * c - 2) = let p = L .some-bytes in omega arith in
         rw (k, pow-double (8 * c - 2)) (omega (arith, pow-pos (8 * c - 2)))
@@ -218,12 +217,12 @@ module _ (B : Board) (L : Laws B) where
   fed-bytes w r (control register v) = refl
   fed-bytes w r (tick k out ans) = refl
 
-  feed-bytes : (ks : List Call) (w : Router) (r : Store) → storeAfter B r (feed c w ks) ≡ storeAfter B r ks
-  unfolding storeAfter feed
+  feed-bytes : (ks : List Call) (w : Router) (r : Store) → afterAll (byteStep B) r (feed c w ks) ≡ afterAll (byteStep B) r ks
+  unfolding afterAll feed
   feed-bytes [] w r = refl
   feed-bytes (k ∷ ks) w r =
       let k′ = fed c w k in
-      feed-bytes ks (wholeStep c w k′ .router) (byteStep B r k′ .store) ∙ ap (λ (o : Outcome). storeAfter B (o .store) ks) (fed-bytes w r k)
+      feed-bytes ks (wholeStep c w k′ .after) (byteStep B r k′ .after) ∙ ap (λ (o : Outcome Store). afterAll (byteStep B) (o .after) ks) (fed-bytes w r k)
 
   -- A slot holds a packet where its place does, so none is lost.
   rel-intact : {r : Store} {w : Router} → Rel B L r w → Good c w → Intact B r

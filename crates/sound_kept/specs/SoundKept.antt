@@ -6,8 +6,8 @@ use mathlib.Core.List.{List, List·Memᴰ}
 use Rattle.rules.specs.Areas.{Store, Bytes, bits}
 use Rattle.rules.specs.Board.{Board}
 use Rattle.rules.specs.Questions as Q
-use Rattle.rules.specs.Calls.{Call, ByteCall}
-use Rattle.rules.specs.Demand3.{storeAfter}
+use Rattle.rules.specs.Calls.{Call, ByteCall, afterAll}
+use Rattle.rules.specs.Demand3.{byteStep}
 
 module _ (B : Board) where
   open Board B using (clockBytes as c, get)
@@ -22,4 +22,4 @@ module _ (B : Board) where
   pub record SoundKept : Type 0 where
     pub fresh : (t : ℕ) → t < 2 ^ bits c → Intact (Q.fresh B t)
     pub calls : (r : Store) → Bytes (r .state) → Bytes (r .memory) → Q.full B r ≡ true → Q.sound B r ≡ true
-        → (ks : List Call) → ((k : Call) → List·Memᴰ k ks → ByteCall c k) → Intact (storeAfter B r ks)
+        → (ks : List Call) → ((k : Call) → List·Memᴰ k ks → ByteCall c k) → Intact (afterAll (byteStep B) r ks)

@@ -3,9 +3,9 @@ ghost use mathlib.Core.Path.{_≡_};
 ghost use Prim.Native.Nat.{_/_, _%_};
 ghost use lib.ListN.{length};
 ghost use mathlib.Core.List.{[], _∷_};
-ghost use Rattle.rules.specs.Areas.{byte, perPort, answersLength, answersArea};
+ghost use Rattle.rules.specs.Areas.{byte, perPort, answersLength, answersArea, Outcome, Store};
 ghost use Rattle.rules.specs.Board.{board8};
-ghost use Rattle.rules.specs.Tick.{Outcome, ticked};
+ghost use Rattle.rules.specs.Tick.{ticked};
 ghost use Rattle.layout.specs.Room.{Lent};
 use layout::Router;
 
@@ -67,8 +67,8 @@ pub fn work(
     waiting: u8,
 )
     requires { ⌜ Lent (now state) (now memory) (now arrivals) (now outgoing) (now answers) ⌝ }
-    ensures { λ _. ⌜ _≡_ {A = Outcome}
-        (record { reply = record { number = 0; outgoing = now (outgoing .exit); answers = now (answers .exit) }; store = record { state = now (state .exit); memory = now (memory .exit) } })
+    ensures { λ _. ⌜ _≡_ {A = Outcome Store}
+        (record { reply = record { number = 0; outgoing = now (outgoing .exit); answers = now (answers .exit) }; after = record { state = now (state .exit); memory = now (memory .exit) } })
         (ticked board8 (record { state = now (state .entry); memory = now (memory .entry) }) arriving waiting (now (arrivals .entry))) ⌝ }
 {
     let met = arrive::arrive(state, memory, arrivals, arriving);

@@ -5,7 +5,7 @@ use Rattle.passes.specs.Ranks.{best}
 use Rattle.passes.proofs.EmptySlots.{to-end}
 use Rattle.passes.proofs.MaskPorts.{each-as}
 use Rattle.passes.proofs.Ranks.{bests-start, best-empty}
-use Rattle.rules.specs.Areas.{low, bits}
+use Rattle.rules.specs.Areas.{bits}
 use Rattle.rules.specs.Board.{board8}
 use native.Mathlib.Numerals.{add-one}
 use mathlib.Core.Path.{_≡_}
@@ -22,7 +22,7 @@ abbrev μ-loop : tie.MeasureT-loop
 μ-loop state end t bests₀ i₀ bests i = end - i
 
 loop-holds : tie.Need-loop-holds Inv-loop μ-loop
-unfolding bits low
+unfolding bits
 loop-holds c = (search needs, bests-start board8 _)
 
 loop-again : tie.Need-loop-again Inv-loop μ-loop

@@ -1,5 +1,5 @@
 -- `clock::since` meets its contract: the wrapping difference is the remainder by 256. Assumes nothing.
-use Rattle.rules.specs.Areas.{bits, low}
+use Rattle.rules.specs.Areas.{bits}
 use Rattle.rules.specs.Clock.{minus}
 use borrow.Author.Needs.{needs}
 use Rattle.clock.proofs.since.Statement.{statement}
@@ -9,7 +9,7 @@ wrapping-sub-u8-requires : tie.Need-wrapping-sub-u8-requires
 wrapping-sub-u8-requires c κs = search needs
 
 returns : tie.Need-returns
-unfolding minus bits low
+unfolding minus bits
 returns c = search needs
 
 pub since-spec : {M : Type 1} → statement M

@@ -22,10 +22,10 @@ unfolding commitHorizon
 next s₀ s m h p e f g = g ∙ rw (add-one p, f, e)
 
 abbrev Inv-loop : tie.InvT-loop
-Inv-loop state₀ (Horizon, mask) port₀ state port = (port ≤ 5) × (length state ≡ length state₀) × (state ≡ commitHorizon board8 port mask (Horizon, state₀))
+Inv-loop state₀ horizon mask port₀ state port = (port ≤ 5) × (length state ≡ length state₀) × (state ≡ commitHorizon board8 port mask horizon state₀)
 
 abbrev μ-loop : tie.MeasureT-loop
-μ-loop state₀ (Horizon, mask) port₀ state port = 5 - port
+μ-loop state₀ horizon mask port₀ state port = 5 - port
 
 loop-holds : tie.Need-loop-holds Inv-loop μ-loop
 unfolding commitHorizon

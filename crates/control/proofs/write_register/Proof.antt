@@ -7,7 +7,7 @@ use mathlib.Core.Logic.{_≢_}
 use native.Mathlib.Omega.{arith}
 use borrow.Author.Needs.{needs}
 use Rattle.rules.specs.Areas.{latchPlace}
-use Rattle.rules.specs.Board.{Latch, board8}
+use Rattle.rules.specs.Board.{Latch as LatchField, board8}
 use Rattle.rules.specs.Control.{written}
 use Rattle.control.specs.declared.Latch.{Latch}
 use Rattle.control.specs.Latches.{latchWith, latchByte}
@@ -15,7 +15,7 @@ use Rattle.control.proofs.write_register.Statement.{statement}
 use Rattle.control.proofs.write_register.Tie as tie
 
 -- A register stored in the latch, and its byte from there in the state, is that register's store.
-stored-written : (s : List ℕ) (l : Latch) (v r : ℕ) → r ≤ 5 → r ≢ 3 → r ≢ 5 → board8 .put s (Latch, latchPlace r) (latchByte (latchWith l r v) r) ≡ written board8 r v s
+stored-written : (s : List ℕ) (l : Latch) (v r : ℕ) → r ≤ 5 → r ≢ 3 → r ≢ 5 → board8 .put s (LatchField, latchPlace r) (latchByte (latchWith l r v) r) ≡ written board8 r v s
 unfolding written
 stored-written s l v zero h a b = refl
 stored-written s l v (suc zero) h a b = refl

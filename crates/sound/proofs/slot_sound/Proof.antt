@@ -7,7 +7,7 @@ use lib.Dec.{ltb, eqb}
 use lib.IntN.{pos, negℤ}
 use lib.Signed.{leZ}
 use borrow.Author.Tests.{not-true, not-false, eq-eqb, ne-eqb, lt-leb, le-leb, lt-ltb, le-ltb}
-use Rattle.rules.specs.Areas.{low, bits, half, packet, stamp}
+use Rattle.rules.specs.Areas.{bits, half, packet, stamp}
 use Rattle.rules.specs.Board.{clock, board8}
 use Rattle.rules.specs.Clock.{offset}
 use Rattle.rules.specs.Questions.{slotSound}
@@ -32,7 +32,7 @@ module _ (c : tie.After-since) where
   by-delay : {t h : ℕ} {v w : Bool} → t ≡ board8 .get (a .args .state .now) clock
       → v ≡ (leZ (negℤ (pos d)) (offset (bits 1) x t) && leZ (offset (bits 1) x t) (pos 126)) → h ≡ stamp 1 (packet (a .args .memory .now) (a .args .s .0))
       → w ≡ (ltb d 128 && v && eqb h (c .before .read3 .result)) → w ≡ slotSound board8 (store (a .args .state .now) (a .args .memory .now)) (a .args .s .0)
-  unfolding half low
+  unfolding half
   by-delay et ev eh e =
       let m = c .before .before .before .before in
       slot-sound-is board8 _ _ (m .before .read .ensures) (c .before .before .read2 .ensures) (c .before .read3 .ensures) et (c .since .ensures) ev eh
