@@ -7,7 +7,7 @@ ghost use lib.Seq.{sets};
 ghost use Rattle.rules.specs.Areas.{packetLength, memoryLength, arrivalsLength, payload, packed, perPort};
 ghost use Rattle.rules.specs.Board.{free, board8};
 ghost use Rattle.rules.specs.Tick.{arrival, placed, admitted, arrived};
-ghost use Rattle.layout.specs.Room.{Room};
+ghost use Rattle.passes.specs.Room.{Room};
 ghost use Rattle.passes.specs.Stores.{store};
 ghost use Rattle.passes.specs.Arrivals.{inTime, met};
 ghost use Rattle.arrive.specs.Numbers.{number};
@@ -93,7 +93,7 @@ fn store_packet(
 fn place(state: &mut [u8], memory: &mut [u8], packet: &[u8])
     requires { ⌜ (length (now state) ≡ board8 .stateLength) × (length (now memory) ≡ memoryLength) × (length (now packet) ≡ packetLength) × (0 < board8 .get (now state) free) ⌝ }
     ensures after { λ _. ⌜ store (now (state .exit)) (now (memory .exit)) ≡ placed board8 (store (now (state .entry)) (now (memory .entry))) (now (packet .entry)) ⌝ }
-    ensures room { λ _. ⌜ (Room (now (state .entry)) → Room (now (state .exit))) ⌝ }
+    ensures room { λ _. ⌜ (Room board8 (now (state .entry)) → Room board8 (now (state .exit))) ⌝ }
 {
     let c = ConnectionId(packet[0]);
     let time = ClockReading(packet[1]);
@@ -114,7 +114,7 @@ fn admit(state: &mut [u8], memory: &mut [u8], packet: &[u8], arriving: u8, port:
     requires { ⌜ (length (now state) ≡ board8 .stateLength) × (length (now memory) ≡ memoryLength) × (length (now packet) ≡ packetLength) × (port < 5) ⌝ }
     ensures number { λ r. ⌜ number r ≡ arrival board8 (now (state .entry)) arriving port (now (packet .entry)) ⌝ }
     ensures after { λ _. ⌜ store (now (state .exit)) (now (memory .exit)) ≡ admitted board8 (store (now (state .entry)) (now (memory .entry))) arriving port (now (packet .entry)) ⌝ }
-    ensures room { λ _. ⌜ (Room (now (state .entry)) → Room (now (state .exit))) ⌝ }
+    ensures room { λ _. ⌜ (Room board8 (now (state .entry)) → Room board8 (now (state .exit))) ⌝ }
 {
     let a = meets(state, packet, arriving, port);
     if let Arrival::Stored = a {
@@ -133,7 +133,7 @@ pub fn arrive(
     requires { ⌜ (length (now state) ≡ board8 .stateLength) × (length (now memory) ≡ memoryLength) × (length (now arrivals) ≡ arrivalsLength) ⌝ }
     ensures answers { λ r. ⌜ r ≡ perPort (λ p. met board8 (store (now (state .entry)) (now (memory .entry))) arriving (now (arrivals .entry)) p ∷ []) ⌝ }
     ensures after { λ _. ⌜ store (now (state .exit)) (now (memory .exit)) ≡ arrived board8 5 arriving (now (arrivals .entry)) (store (now (state .entry)) (now (memory .entry))) ⌝ }
-    ensures room { λ _. ⌜ (Room (now (state .entry)) → Room (now (state .exit))) ⌝ }
+    ensures room { λ _. ⌜ (Room board8 (now (state .entry)) → Room board8 (now (state .exit))) ⌝ }
 {
     let mut answers = [0u8; Router::PORTS];
     let mut p = 0;

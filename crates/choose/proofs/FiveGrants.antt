@@ -1,10 +1,10 @@
 -- Five grants filled in one after the other. Assumes nothing.
 use Prim.Native.Nat.{ℕ, suc, _<_}
-use mathlib.Core.Path.{_≡_, refl, ap, _∙_}
+use mathlib.Core.Path.{_≡_, _∙_}
 use mathlib.Core.List.{List}
 use native.Mathlib.Decide.{ℕ-discrete}
 use native.Mathlib.Omega.{arith}
-use lib.ListN.{length, length-set, set}
+use lib.ListN.{length-set, set}
 use lib.Seq.{getD-set-same, getD-set-other}
 use Rattle.rules.specs.Board.{board8}
 use Rattle.rules.specs.Tick.{grant}

@@ -3,7 +3,7 @@ ghost use mathlib.Core.Path.{_≡_};
 ghost use Prim.Native.Nat.{_≤_};
 ghost use Rattle.rules.specs.Areas.{fits, latchPlace};
 ghost use Rattle.rules.specs.Board.{Latch as LatchField, board8};
-ghost use Rattle.rules.specs.Control.{commitEntry, commitHorizon, written};
+ghost use Rattle.rules.specs.Questions.{commitEntry, commitHorizon, written};
 ghost use Rattle.control.specs.Latches.{latchOf, latchWith, latchByte};
 use layout::ConnectionId;
 use layout::Field;

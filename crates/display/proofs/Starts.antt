@@ -8,9 +8,9 @@ use lib.ListN.{length, take, drop}
 use lib.Seq.{drop-drop, drop-length}
 use lib.Dec.{leb, eqb}
 use borrow.Author.Tests.{leb-true, eqb-true}
-use Rattle.rules.specs.Areas.{outgoingLength, packet, payload, display}
+use Rattle.rules.specs.Areas.{outgoingLength, packet, payload}
 use Rattle.rules.proofs.Booleans.{and-left, and-right}
-use Rattle.display.specs.Start.{displayStart}
+use Rattle.display.specs.Display.{display, displayStart}
 
 -- The data of a packet are 18 bytes, past identifier and time.
 data-part : (l : List ℕ) → drop 2 (take 20 l) ≡ take 18 (drop 2 l)
@@ -36,7 +36,7 @@ module _ (s : List ℕ) (p : ℕ) where
 
   -- It starts at n.
   abbrev StartsAt : ℕ → Type 0
-  StartsAt n = (n ≡ displayStart s p) × (take 18 (drop n s) ≡ display 1 s p)
+  StartsAt n = (n ≡ displayStart 1 s p) × (take 18 (drop n s) ≡ display 1 s p)
 
   pub at-the-end : shown ≡ false → StartsAt (length s)
   unfolding displayStart

@@ -4,8 +4,8 @@ ghost use mathlib.Core.Bool.{_&&_};
 ghost use Prim.Native.Nat.{_+_, _*_};
 ghost use lib.Dec.{leb, eqb};
 ghost use lib.ListN.{length, take, drop};
-ghost use Rattle.rules.specs.Areas.{outgoingLength, display};
-ghost use Rattle.display.specs.Start.{displayStart};
+ghost use Rattle.rules.specs.Areas.{outgoingLength};
+ghost use Rattle.display.specs.Display.{display, displayStart};
 use layout::Router;
 
 const LAST_PORT: u8 = Router::PORTS as u8 - 1;
@@ -32,7 +32,7 @@ fn data_start(port: u8) -> usize
 
 // Where the part starts in the area; the area's length where it is empty.
 pub fn start(outgoing: &[u8], port: u8) -> usize
-    ensures start { λ r. ⌜ r ≡ displayStart (now (outgoing .entry)) port ⌝ }
+    ensures start { λ r. ⌜ r ≡ displayStart 1 (now (outgoing .entry)) port ⌝ }
     ensures part { λ r. ⌜ take 18 (drop r (now (outgoing .entry))) ≡ display 1 (now (outgoing .entry)) port ⌝ }
 {
     if !is_shown(outgoing, port) {

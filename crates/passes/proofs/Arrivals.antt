@@ -14,12 +14,12 @@ use borrow.Author.Tests.{eqb-false}
 use Rattle.rules.specs.Clock.{plus, offset}
 use Rattle.rules.specs.Areas.{Store, packetLength, byte, bits, packet, stamp, payload, packed, has, portsBelow, perPort, asked, arrivalQuestions, arrivalAnswer}
 use Rattle.rules.specs.Board.{Board, Idle, Time, Deadline, Mask, Outgoing, Delay, Routes, clock, free}
-use Rattle.rules.specs.Questions.{used}
 use Rattle.rules.specs.Tick.{arrivalRefusal, arrival, placed, admitted, arrived}
+use Rattle.passes.specs.Room.{used}
 use Rattle.rules.proofs.AreaLaws.{filled, filled-next, filled-all}
 use Rattle.rules.proofs.BoardLaws.{Laws}
 use Rattle.rules.proofs.Booleans.{not-false}
-use Rattle.rules.proofs.Room.{placed-used}
+use Rattle.passes.proofs.Room.{placed-used}
 use Rattle.passes.specs.Stores.{store}
 use Rattle.passes.specs.Arrivals.{inTime, met}
 

@@ -1,3 +1,4 @@
+pub mod Room
 pub mod FirstFailure
 pub mod StackMarks
 pub mod SlotTests

@@ -13,8 +13,8 @@ use borrow.Author.Tests.{eq-eqb, ne-eqb}
 use Rattle.rules.specs.Areas.{has}
 use Rattle.rules.specs.Board.{Board, Deadline, Mask, clock, free}
 use Rattle.rules.specs.Order.{count, counted}
-use Rattle.rules.specs.Questions.{occupied, used}
 use Rattle.rules.specs.Tick.{isDue, giveBack}
+use Rattle.passes.specs.Room.{occupied, used}
 use Rattle.rules.proofs.BoardLaws.{Laws}
 use Rattle.rules.proofs.Masks.{has-zero}
 use Rattle.passes.specs.Ports.{EachPort, changed}

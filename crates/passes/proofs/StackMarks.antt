@@ -14,9 +14,9 @@ use Rattle.rules.specs.Order.{all, topFirst}
 use Rattle.rules.specs.Areas.{elem, distinct}
 use Rattle.rules.specs.Board.{Board, Idle, free}
 use Rattle.rules.specs.Questions.{stack, listed, stackSound}
-use Rattle.rules.specs.Questions.{used}
+use Rattle.passes.specs.Room.{used}
 use Rattle.rules.proofs.BoardLaws.{Laws}
-use Rattle.rules.proofs.Room.{sound-used}
+use Rattle.passes.proofs.Room.{sound-used}
 use Rattle.passes.specs.Stack.{entries, Marked}
 
 module _ (B : Board) (s : List ℕ) where

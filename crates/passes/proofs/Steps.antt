@@ -13,8 +13,8 @@ use borrow.Author.Tests.{lt-ltb, le-ltb}
 use Rattle.rules.specs.Areas.{has, perPort, Grant}
 use Rattle.rules.specs.Board.{Board, Deadline, Mask, clock, free}
 use Rattle.rules.specs.Order.{count}
-use Rattle.rules.specs.Questions.{occupied, used}
 use Rattle.rules.specs.Tick.{isDue, withdrawn, withdrawals, returned}
+use Rattle.passes.specs.Room.{occupied, used}
 use Rattle.rules.proofs.BoardLaws.{Laws}
 use Rattle.rules.proofs.IndexLaws.{count-same}
 use Rattle.rules.proofs.Integers.{ltb-iff}

@@ -1,3 +1,4 @@
+pub mod Room
 pub mod Empty
 pub mod Stores
 pub mod Stack

@@ -7,8 +7,8 @@ use lib.Dec.{eqb}
 use Rattle.rules.specs.Order.{count, counted}
 use Rattle.rules.specs.Areas.{has}
 use Rattle.rules.specs.Board.{Board, Deadline, Mask}
-use Rattle.rules.specs.Questions.{occupied}
 use Rattle.rules.specs.Tick.{isDue, giveBack}
+use Rattle.passes.specs.Room.{occupied}
 
 module _ (B : Board) where
   open Board B using (get, put)

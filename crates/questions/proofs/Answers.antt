@@ -6,15 +6,15 @@ use mathlib.Core.List.{List, [], _∷_}
 use lib.ListN.{length}
 use lib.Dec.{eqb}
 use borrow.Author.Tests.{eqb-true, not-true, not-false}
-use Rattle.rules.specs.Areas.{Store, memoryLength, arrivalsLength, outgoingLength, answersLength, areasFull, Question, asked}
+use Rattle.rules.specs.Areas.{Store, memoryLength, arrivalsLength, outgoingLength, answersLength, areasFull, asked}
 use Rattle.rules.specs.Board.{board8}
 use Rattle.rules.specs.Questions.{full}
-use Rattle.layout.specs.Room.{Room, Lent}
+use Rattle.passes.specs.Room.{Room, Lent}
 use Rattle.rules.proofs.Booleans.{and-left, and-right}
 
 -- ---- the next question of a call, whose answer the code has as `test`
 
-module _ (passed : Bool) (n : ℕ) (qs : List Question) {test : Bool} (answer : test ≡ passed) where
+module _ (passed : Bool) (n : ℕ) (qs : List (Bool × ℕ)) {test : Bool} (answer : test ≡ passed) where
   -- No: the call stops with the question's number.
   pub no : not test ≡ true → n ≡ asked ((passed, n) ∷ qs)
   unfolding asked
@@ -43,7 +43,7 @@ full-lengths r e =
     let m = eqb (length (r .memory)) memoryLength in
     (eqb-true _ _ (and-left s m e), eqb-true _ _ (and-right s m e))
 
-pub all-lent : (s m area out ans : List ℕ) → (full board8 (record { state = s; memory = m }) && areasFull area out ans) ≡ true → Room s → Lent s m area out ans
+pub all-lent : (s m area out ans : List ℕ) → (full board8 (record { state = s; memory = m }) && areasFull area out ans) ≡ true → Room board8 s → Lent board8 s m area out ans
 unfolding areasFull
 all-lent s m area out ans e room =
     let f = full board8 (record { state = s; memory = m }) in

@@ -4,7 +4,7 @@ ghost use mathlib.Core.Bool.{_&&_};
 ghost use Rattle.rules.specs.Areas.{areasFull, asked, controlQuestions, tickQuestions};
 ghost use Rattle.rules.specs.Board.{board8};
 ghost use Rattle.rules.specs.Questions.{full, controlRefusal, tickRefusal};
-ghost use Rattle.layout.specs.Room.{Lent};
+ghost use Rattle.passes.specs.Room.{Lent};
 ghost use Rattle.layout.specs.Numbers.{numberOf};
 use layout::Refusal;
 use layout::Router;
@@ -83,7 +83,7 @@ pub fn of_tick(
     waiting: u8,
 ) -> Refusal
     ensures number { λ r. ⌜ numberOf r ≡ tickRefusal board8 (record { state = now (state .entry); memory = now (memory .entry) }) arriving waiting (now (arrivals .entry)) (now (outgoing .entry)) (now (answers .entry)) ⌝ }
-    ensures lengths { λ r. ⌜ (numberOf r ≡ 0 → Lent (now (state .entry)) (now (memory .entry)) (now (arrivals .entry)) (now (outgoing .entry)) (now (answers .entry))) ⌝ }
+    ensures lengths { λ r. ⌜ (numberOf r ≡ 0 → Lent board8 (now (state .entry)) (now (memory .entry)) (now (arrivals .entry)) (now (outgoing .entry)) (now (answers .entry))) ⌝ }
 {
     if !areas_full(state, memory, arrivals, outgoing, answers) {
         return Refusal::Lengths;

@@ -7,9 +7,8 @@ use lib.Dec.{leb}
 use borrow.Author.Tests.{ne-eqb, leb-true}
 use Rattle.rules.specs.Areas.{Store, numberReply, Outcome}
 use Rattle.rules.specs.Board.{board8}
-use Rattle.rules.specs.Control.{written}
+use Rattle.rules.specs.Questions.{written, full, sound, controlRefusal, controlWrite, tickRefusal, tick}
 use Rattle.rules.specs.Tick.{ticked}
-use Rattle.rules.specs.Questions.{full, sound, controlRefusal, controlWrite, tickRefusal, tick}
 use Rattle.rules.proofs.Booleans.{asked-passed}
 
 -- ---- a control write

@@ -1,10 +1,10 @@
 // The router's entries: what the board firmware and the display software call.
 ghost use mathlib.Core.Path.{_≡_};
 ghost use lib.ListN.{take, drop};
-ghost use Rattle.rules.specs.Areas.{numberReply, display, Outcome, Store};
+ghost use Rattle.rules.specs.Areas.{numberReply, Outcome, Store};
 ghost use Rattle.rules.specs.Board.{board8};
 ghost use Rattle.rules.specs.Questions.{makeFresh, controlWrite, tick};
-ghost use Rattle.display.specs.Start.{displayStart};
+ghost use Rattle.display.specs.Display.{display, displayStart};
 
 // Makes state and memory those of a fresh router.
 #[no_mangle]
@@ -73,7 +73,7 @@ pub extern "C" fn router_tick(
 // Where the display part of a port starts in the outgoing area; the area's length where it is empty.
 #[no_mangle]
 pub extern "C" fn router_display(outgoing: &[u8], port: u8) -> usize
-    ensures start { λ r. ⌜ r ≡ displayStart (now (outgoing .entry)) port ⌝ }
+    ensures start { λ r. ⌜ r ≡ displayStart 1 (now (outgoing .entry)) port ⌝ }
     ensures part { λ r. ⌜ take 18 (drop r (now (outgoing .entry))) ≡ display 1 (now (outgoing .entry)) port ⌝ }
 {
     display::start(outgoing, port)

@@ -1,7 +1,7 @@
 -- Both routers agree over any list of calls, for every lawful board: call by call, the relation of store and router is kept and the replies are equal. Assumes nothing.
-use Prim.Native.Nat.{ℕ, zero, suc, _+_, _-_, _^_, _<_}
+use Prim.Native.Nat.{ℕ, zero, suc, _-_, _^_, _<_}
 use mathlib.Core.Path.{_≡_, refl, sym, ap, ap₂, _∙_}
-use mathlib.Core.Bool.{Bool, true, false, cond, _||_, true≢false}
+use mathlib.Core.Bool.{Bool, true, false, cond}
 use mathlib.Core.List.{List, [], _∷_}
 use mathlib.Core.Option.{Option, none, some}
 use native.Mathlib.Omega.{arith}
@@ -12,11 +12,10 @@ use Rattle.rules.specs.Account.{NotedTick, Kept, stored}
 use Rattle.rules.specs.Areas.{Store, Reply, Outcome, numberReply, bits, fits, elem, distinct, asked}
 use Rattle.rules.specs.Board.{Board, Horizon, Latch, Idle, Mask, Outgoing, Delay, Routes, clock, free}
 use Rattle.rules.specs.Calls.{Call, control, tick, afterAll, replies, refusal, refuse, accept, wholeStep, ByteCall, TrueTimes, Proper}
-use Rattle.rules.specs.Control.{written}
+use Rattle.rules.specs.Questions.{written, sound, controlRefusal, tickRefusal, fresh, stack}
 use Rattle.rules.specs.Demand3.{noted, byteStep, history, PlaceShown, Shown, AfterCalls, Holds}
 use Rattle.rules.specs.Order.{all, count, counted, topFirst}
 use Rattle.rules.specs.Questions as Entry
-use Rattle.rules.specs.Questions.{sound, controlRefusal, tickRefusal, fresh, stack}
 use Rattle.rules.specs.Tick as Tick
 use Rattle.rules.specs.Whole.{Held, Router, TickCall, start, written as wholeWritten, ticked, isHeld}
 use Rattle.rules.proofs.BoardLaws.{Laws, freshField}

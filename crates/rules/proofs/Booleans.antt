@@ -6,7 +6,7 @@ use mathlib.Core.List.{List, [], _∷_}
 use mathlib.Core.Option.{none, some}
 use native.Mathlib.Omega.{arith}
 use lib.Dec.{T}
-use Rattle.rules.specs.Areas.{Question, asked}
+use Rattle.rules.specs.Areas.{asked}
 
 -- ---- a test and its proposition
 
@@ -64,7 +64,7 @@ eq-beq a b e = subst (λ (x : Bool). Bool·beq a x ≡ true) e (go a)
     go false = refl
 
 -- Where questions give 0, the first is passed and the rest give 0.
-pub asked-passed : (passed : Bool) (n : ℕ) (qs : List Question) → asked ((passed, suc n) ∷ qs) ≡ 0 → (passed ≡ true) × (asked qs ≡ 0)
+pub asked-passed : (passed : Bool) (n : ℕ) (qs : List (Bool × ℕ)) → asked ((passed, suc n) ∷ qs) ≡ 0 → (passed ≡ true) × (asked qs ≡ 0)
 unfolding asked
 asked-passed true n qs e = (refl, e)
 asked-passed false n qs e = absurd (omega arith)

@@ -6,7 +6,7 @@ use native.Mathlib.Omega.{arith}
 use lib.ListN.{length, take, drop}
 use lib.IntN.{ℤ, pos, _+ℤ_, _-ℤ_}
 use Rattle.rules.specs.Areas.{Bytes, bits, half, value, packet, stamp}
-use Rattle.rules.specs.Calls.{Call, control, tick, wholeStep, ByteCall, TrueTime, TrueTimes, Proper, trueTimes, fed, feed}
+use Rattle.rules.specs.Calls.{Call, control, tick, wholeStep, ByteCall, TrueTime, TrueTimes, Proper, fed, feed}
 use Rattle.rules.specs.Clock.{cut, minus, signed, offset}
 use Rattle.rules.specs.Demand3.{Feedable}
 use Rattle.rules.specs.Whole.{Router, start, TickCall}
@@ -31,18 +31,17 @@ module _ (c : ℕ) (some-bytes : 0 < c) (few-bytes : c < 20) where
       subst (λ (n : ℕ). value (take c (drop 1 k)) < n) (full-bits c some-bytes) (part-lt c 1 k (bytes-part 20 (20 * p) area h) (let l : length k ≡ 20 = length-packet area p (omega arith) in omega arith))
 
   -- The offset is in the signed range, and its sum with the clock is cut to the header's time.
-  true-time : (r : Router) (k : TickCall) → k .times ≡ trueTimes c (r .clock) (k .arrivals) → length (k .arrivals) ≡ 100 → Bytes (k .arrivals) → (p : ℕ) → p < 5 → TrueTime c r k p
-  unfolding trueTimes half bits offset
-  true-time r k et e h p hp =
+  true-time : (r : Router) (k : TickCall) → ((p : ℕ) → k .times p ≡ r .clock +ℤ offset (bits c) (stamp c (packet (k .arrivals) p)) (cut (bits c) (r .clock))) → length (k .arrivals) ≡ 100 → Bytes (k .arrivals) → (p : ℕ) → p < 5 → TrueTime c r k p
+  unfolding half bits offset
+  true-time r k u e h p hp =
       let x = stamp c (packet (k .arrivals) p) in
       let t = cut (bits c) (r .clock) in
-      let u : k .times p ≡ r .clock +ℤ offset (bits c) x t = ap (λ f. f p) et in
-      let o : k .times p -ℤ r .clock ≡ signed (bits c) (minus (bits c) x t) = ap (λ (z : ℤ). z -ℤ r .clock) u ∙ sum-diff (r .clock) (offset (bits c) x t) in
+      let o : k .times p -ℤ r .clock ≡ signed (bits c) (minus (bits c) x t) = ap (λ (z : ℤ). z -ℤ r .clock) (u p) ∙ sum-diff (r .clock) (offset (bits c) x t) in
       let (e′, s, from, to) = signed-view (8 * c - 1) (minus (bits c) x t) (minus-lt (bits c) x t) in
       record {
         from = record { le = rw o (omega (arith, orders, neg-nat (pos (half c)))) };
         to = record { lt = rw o (omega (arith, orders)) };
-        header = cut-back (8 * c - 1) (r .clock) x (stamp-lt (k .arrivals) p e hp h) ∙ ap (cut (bits c)) (sym u);
+        header = cut-back (8 * c - 1) (r .clock) x (stamp-lt (k .arrivals) p e hp h) ∙ ap (cut (bits c)) (sym (u p));
       }
 
   -- By induction over the calls.
@@ -52,10 +51,10 @@ module _ (c : ℕ) (some-bytes : 0 < c) (few-bytes : c < 20) where
   feed-proper (control register v ∷ ks) r h = (h (control register v) (List·Memᴰ·head refl), tt, feed-proper ks (wholeStep c r (control register v) .after) (λ k m. h k (List·Memᴰ·tail m)))
   feed-proper (tick k out ans ∷ ks) r h =
       let b = h (tick k out ans) (List·Memᴰ·head refl) in
-      (b, λ e p hp q. true-time r k′ refl (whole-area c r k′ out ans e) (b .2) p hp, feed-proper ks (wholeStep c r (tick k′ out ans) .after) (λ k m. h k (List·Memᴰ·tail m)))
+      (b, λ e p hp q. true-time r k′ (λ p. refl) (whole-area c r k′ out ans e) (b .2) p hp, feed-proper ks (wholeStep c r (tick k′ out ans) .after) (λ k m. h k (List·Memᴰ·tail m)))
     where
       k′ : TickCall
-      k′ = record { arriving = k .arriving; bestEffort = k .bestEffort; arrivals = k .arrivals; times = trueTimes c (r .clock) (k .arrivals) }
+      k′ = record { arriving = k .arriving; bestEffort = k .bestEffort; arrivals = k .arrivals; times = λ p. r .clock +ℤ offset (bits c) (stamp c (packet (k .arrivals) p)) (cut (bits c) (r .clock)) }
 
   -- Each call is given its true times.
   pub feedable : Feedable c

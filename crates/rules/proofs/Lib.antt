@@ -29,5 +29,4 @@ pub mod RunPrompt
 pub mod Agreement
 pub mod Feed
 pub mod Soundness
-pub mod Room
 pub mod Theorem

@@ -8,7 +8,7 @@ use native.Mathlib.Decide.{decLt}
 use native.Mathlib.Omega.{arith}
 use lib.IntN.{ℤ}
 use lib.Signed.{ltZ}
-use Rattle.rules.specs.Order.{better, least, Order, by, then, Key, onTimeFirst, comparator}
+use Rattle.rules.specs.Order.{better, least, Order, by, then, onTimeFirst, comparator}
 use Rattle.rules.proofs.Booleans.{some-inj, none-some, is-true, true-is}
 use Rattle.rules.proofs.Integers.{orders, not-lt}
 

@@ -13,7 +13,7 @@ use lib.IntN.{sucℤ, _-ℤ_}
 use borrow.Author.Tests.{eq-eqb, ne-eqb}
 use Rattle.rules.specs.Account.{Kept, stored}
 use Rattle.rules.specs.Areas.{bits, half, value, digits, packet, stamp, packed, portsBelow, perPort, answersArea, Grant, nobody, bestEffort, onTime, early, elem, distinct, Store}
-use Rattle.rules.specs.Board.{Board, Horizon, Latch, Idle, Time, Deadline, Mask, Outgoing, Delay, Routes, clock, free}
+use Rattle.rules.specs.Board.{Board, Horizon, Latch, Mask, Delay, Routes, clock, free}
 use Rattle.rules.specs.Clock.{cut, plus, minus, offset}
 use Rattle.rules.specs.Questions.{sound, full}
 use Rattle.rules.specs.Tick.{arrived, served, withdrawn, returned}

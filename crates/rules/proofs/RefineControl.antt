@@ -9,7 +9,7 @@ use borrow.Author.Tests.{ltb-true, lt-ltb}
 use Rattle.rules.specs.Account.{Kept}
 use Rattle.rules.specs.Areas.{has, fits, Store}
 use Rattle.rules.specs.Board.{Board, Kind, Horizon, Latch, Outgoing, Delay, Routes, Field}
-use Rattle.rules.specs.Control.{commitEntry, commitHorizon, written}
+use Rattle.rules.specs.Questions.{commitEntry, commitHorizon, written}
 use Rattle.rules.specs.Whole.{Entry, Router}
 use Rattle.rules.specs.Whole as Whole
 use Rattle.rules.proofs.BoardLaws.{Laws}

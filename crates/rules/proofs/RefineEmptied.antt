@@ -16,7 +16,7 @@ use Rattle.rules.specs.Demand3.{HeldShown}
 use Rattle.rules.specs.Order.{count, counted, topFirst}
 use Rattle.rules.specs.Questions.{stack}
 use Rattle.rules.specs.Tick.{isDue as isDueNow, withdrawn, withdrawals, giveBack, returned}
-use Rattle.rules.specs.Whole.{Held, Router, toServe, isDue, due, remaining, freed, emptied, isHeld}
+use Rattle.rules.specs.Whole.{Held, Router, toServe, isDue, due, remaining, emptied, isHeld}
 use Rattle.rules.proofs.BoardLaws.{Laws, sameKind, sameField}
 use Rattle.rules.specs.Whole as Whole
 use Rattle.rules.proofs.Booleans.{and-left}
@@ -134,7 +134,7 @@ module _ (B : Board) (L : Laws B) where
 
     -- A slot goes back just where its place is emptied; there is room, as that place was held.
     back-step : (n : ℕ) → n < 256 → Back n → Back (suc n)
-    unfolding returned emptied freed
+    unfolding returned emptied
     back-step n l P = finish (leaves t v) refl
       where
         v : Option Held

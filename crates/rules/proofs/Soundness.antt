@@ -14,7 +14,7 @@ use Rattle.rules.specs.Clock.{minus, offset}
 use Rattle.rules.specs.Order.{all, topFirst}
 use Rattle.rules.specs.Areas.{Store, bits, half, packet, stamp, elem, distinct}
 use Rattle.rules.specs.Board.{Board, Horizon, Latch, Idle, Time, Deadline, Mask, Delay, Routes, clock, free}
-use Rattle.rules.specs.Questions.{connectionSound, horizonSound, latchSound, settingsSound, stack, listed, stackSound, slotSound, slotsSound, sound}
+use Rattle.rules.specs.Questions.{connectionSound, horizonSound, settingsSound, stack, listed, stackSound, slotSound, slotsSound, sound}
 use Rattle.rules.proofs.Booleans.{is-true, true-is, and-left, and-right, and-both, or-right, not-false, beq-eq, eq-beq}
 use Rattle.rules.proofs.IndexLaws.{all-at, all-true}
 
@@ -144,8 +144,9 @@ module _ (B : Board) where
   settings-iff : (s : List ℕ) → (settingsSound B s ≡ true) ↔ SettingsSound B s
   unfolding settingsSound
   settings-iff s =
-      let parts = and-iff (all 256 (connectionSound B s)) (all 5 (horizonSound B s) && latchSound B s) in
-      let others = and-iff (all 5 (horizonSound B s)) (latchSound B s) in
+      let latch = ltb (get s (Latch, 1)) (half c) && (leb (get s (Latch, 2)) 31 && leb (get s (Latch, 3)) 31) in
+      let parts = and-iff (all 256 (connectionSound B s)) (all 5 (horizonSound B s) && latch) in
+      let others = and-iff (all 5 (horizonSound B s)) latch in
       let registers = and-iff (ltb (get s (Latch, 1)) (half c)) (leb (get s (Latch, 2)) 31 && leb (get s (Latch, 3)) 31) in
       let two = and-iff (leb (get s (Latch, 2)) 31) (leb (get s (Latch, 3)) 31) in (
         λ e.

@@ -1,7 +1,7 @@
 -- The steps of the router that never turns over: what holds through each, and that no place is lost. Assumes nothing.
 use Prim.Native.Nat.{ℕ, zero, suc, _+_, _<_, _≤_}
 use mathlib.Core.Path.{_≡_, refl, sym, ap, subst, _∙_}
-use mathlib.Core.Bool.{Bool, true, false, cond, not, _||_, true≢false}
+use mathlib.Core.Bool.{Bool, true, false, cond, not, _||_, true≢false, _&&_}
 use mathlib.Core.Logic.{_≢_}
 use mathlib.Core.List.{List, [], _∷_}
 use mathlib.Core.Option.{Option, none, some}
@@ -15,7 +15,7 @@ use borrow.Author.Tests.{eq-eqb, ne-eqb, eqb-false, lt-ltb, le-ltb}
 use Rattle.rules.specs.Account.{stored, Kept}
 use Rattle.rules.specs.Areas.{byte, packet, has, without, elem, distinct, Grant, nobody, bestEffort, onTime, early, asked, arrivalQuestions, arrivalAnswer}
 use Rattle.rules.specs.Order.{count, counted}
-use Rattle.rules.specs.Whole.{Packet, Held, Router, withPlaces, put, Arrival, absent, refused, accepted, placed, admitted, lose, sent, isDue, remaining, freed, emptied, arrivalRefusal, made, arrival, arrivalCode, isHeld}
+use Rattle.rules.specs.Whole.{Packet, Held, Router, withPlaces, put, Arrival, absent, refused, accepted, placed, admitted, lose, sent, isDue, remaining, emptied, arrivalRefusal, made, arrival, arrivalCode, isHeld}
 use Rattle.rules.proofs.Booleans.{is-true, asked-passed, some-inj, none-some, and-left, and-right, or-right, not-false}
 use Rattle.rules.proofs.IndexLaws.{count-change, count-same}
 use Rattle.rules.proofs.Integers.{ltb-iff}
@@ -263,9 +263,13 @@ unfolding lose isHeld
 held-lose p none = refl
 held-lose p (some h) = refl
 
+-- The free list once place i, which held v, holds h.
+abbrev freed : Option Held → Option Held → ℕ → List ℕ → List ℕ
+freed v h i l = cond (isHeld v && not (isHeld h)) (i ∷ l) l
+
 -- Emptying loses no place.
 pub emptied-kept : (T : ℤ) (n : ℕ) (w : Router) → n ≤ 256 → Kept (w .place) (w .free) → Kept (emptied T n w .place) (emptied T n w .free)
-unfolding emptied remaining freed isHeld
+unfolding emptied remaining isHeld
 emptied-kept T zero w l K = K
 emptied-kept T (suc n) w l K = go (emptied T n w .place) (emptied T n w .free) (emptied-kept T n w (omega arith) K) (emptied T n w .place n) refl
   where

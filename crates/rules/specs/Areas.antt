@@ -78,10 +78,6 @@ payload c k = drop (1 + c) k
 unfoldable pub packed : ℕ → ℕ → ℕ → List ℕ → List ℕ
 packed c identifier v data′ = identifier ∷ digits c v ++ data′
 
--- The display software's part of the outgoing area: the data of one port, empty exactly if the area isn't 100 bytes or the port is above 4.
-unfoldable pub display : ℕ → List ℕ → ℕ → List ℕ
-display c area p = cond (eqb (length area) outgoingLength && leb p 4) (payload c (packet area p)) []
-
 -- A port mask has bit p for port p, 0 to 4.
 unfoldable pub has : ℕ → ℕ → Bool
 has mask p = eqb (mask / 2 ^ p % 2) 1
@@ -141,26 +137,22 @@ distinct (x ∷ xs) = not (elem x xs) && distinct xs
 
 -- ---- questions in their order, and those that both routers ask of a call (document 01, "The questions, in order")
 
--- The answer, and the number of a no.
-abbrev pub Question : Type 0
-Question = Bool × ℕ
-
--- The first no stops the call with its number; 0 means accepted.
-unfoldable pub asked : List Question → ℕ
+-- A question is its answer and the number of a no. The first no stops the call with its number; 0 means accepted.
+unfoldable pub asked : List (Bool × ℕ) → ℕ
 asked [] = 0
 asked ((passed, n) ∷ qs) = cond (not passed) n (asked qs)
 
 -- A control write, at a clock reading of c bytes: is the register 0-5 (4), does the value fit it (5)?
-abbrev pub controlQuestions : ℕ → ℕ → ℕ → List Question
+abbrev pub controlQuestions : ℕ → ℕ → ℕ → List (Bool × ℕ)
 controlQuestions c register v = (leb register 5, 4) ∷ (fits c register v, 5) ∷ []
 
 -- Per arrival: is the entry's mask nonzero (6), is the offset at least - d (7), is n above 0 (8)? An accepted one is answered by 1.
-abbrev pub arrivalQuestions : Bool → Bool → Bool → List Question
+abbrev pub arrivalQuestions : Bool → Bool → Bool → List (Bool × ℕ)
 arrivalQuestions routed inTime room = (routed, 6) ∷ (inTime, 7) ∷ (room, 8) ∷ []
 
 unfoldable pub arrivalAnswer : ℕ → ℕ
 arrivalAnswer n = cond (eqb n 0) 1 n
 
 -- A tick: are both masks at most 31 (3)?
-abbrev pub tickQuestions : ℕ → ℕ → List Question
+abbrev pub tickQuestions : ℕ → ℕ → List (Bool × ℕ)
 tickQuestions arriving waiting = (leb arriving 31 && leb waiting 31, 3) ∷ []

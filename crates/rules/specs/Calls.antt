@@ -4,7 +4,7 @@ use mathlib.Core.Path.{_≡_}
 use mathlib.Core.Bool.{true, cond}
 use mathlib.Core.List.{List, [], _∷_}
 use lib.Dec.{eqb}
-use lib.IntN.{ℤ, pos, negℤ, _+ℤ_, _-ℤ_}
+use lib.IntN.{pos, negℤ, _+ℤ_, _-ℤ_}
 use lib.Signed.{_≤ℤ_, _<ℤ_}
 use Rattle.rules.specs.Clock.{cut, offset}
 use Rattle.rules.specs.Areas.{Reply, Outcome, numberReply, areasFull, Bytes, bits, half, packet, stamp, has, asked, controlQuestions, tickQuestions}
@@ -65,13 +65,10 @@ module _ (c : ℕ) where
   Proper r [] = Unit {0}
   Proper r (k ∷ ks) = ByteCall k × TrueTimes r k × Proper (wholeStep r k .after) ks
 
-  -- True times that any bytes can be given: the clock and the offset of the header's time.
-  unfoldable pub trueTimes : ℤ → List ℕ → ℕ → ℤ
-  trueTimes t area p = t +ℤ offset (bits c) (stamp c (packet area p)) (cut (bits c) t)
-
+  -- The true times that any bytes can be given: the clock and the offset of the header's time.
   unfoldable pub fed : Router → Call → Call
   fed r (control register v) = control register v
-  fed r (tick k out ans) = tick (record { arriving = k .arriving; bestEffort = k .bestEffort; arrivals = k .arrivals; times = trueTimes (r .clock) (k .arrivals) }) out ans
+  fed r (tick k out ans) = tick (record { arriving = k .arriving; bestEffort = k .bestEffort; arrivals = k .arrivals; times = λ p. r .clock +ℤ offset (bits c) (stamp c (packet (k .arrivals) p)) (cut (bits c) (r .clock)) }) out ans
 
   unfoldable pub feed : Router → List Call → List Call
   feed r [] = []

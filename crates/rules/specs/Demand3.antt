@@ -9,8 +9,7 @@ use lib.Dec.{eqb}
 use Rattle.rules.specs.Clock.{cut}
 use Rattle.rules.specs.Areas.{Store, Outcome, bits, packet}
 use Rattle.rules.specs.Board.{Board, Horizon, Latch, Time, Deadline, Mask, Outgoing, Delay, Routes, clock, free, board8}
-use Rattle.rules.specs.Questions as Entry
-use Rattle.rules.specs.Questions.{fresh, stack, sound}
+use Rattle.rules.specs.Questions.{fresh, stack, sound, controlWrite, tick as tickEntry}
 use Rattle.rules.specs.Whole.{Router, Held, ticked, start, packetBytes}
 use Rattle.rules.specs.Calls.{Call, control, tick, afterAll, replies, refusal, wholeStep, ByteCall, Proper, feed}
 use Rattle.rules.specs.Account.{NotedTick, stored, Accounts}
@@ -25,8 +24,8 @@ module _ (B : Board) where
 
   -- The run of the router over bytes: `controlWrite` and `tick` (Questions) are the very constants that the promises of the exported entries cite, and `fresh` is the store that `makeFresh` leaves.
   unfoldable pub byteStep : Store → Call → Outcome Store
-  byteStep r (control register v) = Entry.controlWrite B r register v
-  byteStep r (tick k out ans) = Entry.tick B r (k .arriving) (k .bestEffort) (k .arrivals) out ans
+  byteStep r (control register v) = controlWrite B r register v
+  byteStep r (tick k out ans) = tickEntry B r (k .arriving) (k .bestEffort) (k .arrivals) out ans
 
   -- The accepted ticks, each with what the router that never turns over did and the outgoing area of the router over bytes.
   unfoldable pub history : Store → Router → List Call → List NotedTick

@@ -2,7 +2,6 @@ pub mod Clock
 pub mod Order
 pub mod Areas
 pub mod Board
-pub mod Control
 pub mod Tick
 pub mod Questions
 pub mod Whole

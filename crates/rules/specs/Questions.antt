@@ -1,20 +1,19 @@
--- The questions, in order (document 01), and the entries that put them: a refused call gives its number and alters nothing. Assumes nothing.
-use Prim.Native.Nat.{ℕ, _+_, _-_}
-use mathlib.Core.Bool.{Bool, cond, not, _&&_, _||_, Bool·beq}
+-- The questions, in order (document 01), control writes, and the entries: a refused call gives its number and alters nothing. Assumes nothing.
+use Prim.Native.Nat.{ℕ, zero, suc, _-_}
+use mathlib.Core.Bool.{Bool, cond, _&&_, _||_, Bool·beq}
 use mathlib.Core.List.{List, _∷_}
 use lib.ListN.{length, replicate}
 use lib.Dec.{leb, ltb, eqb}
 use lib.IntN.{pos, negℤ}
 use lib.Signed.{leZ}
 use Rattle.rules.specs.Clock.{minus, offset}
-use Rattle.rules.specs.Order.{all, count, topFirst}
-use Rattle.rules.specs.Areas.{Store, Outcome, numberReply, memoryLength, areasFull, bits, half, packet, stamp, elem, distinct, asked, controlQuestions, tickQuestions}
-use Rattle.rules.specs.Board.{Board, Horizon, Latch, Idle, Time, Deadline, Mask, Delay, Routes, clock, free}
-use Rattle.rules.specs.Control.{written}
+use Rattle.rules.specs.Order.{all, topFirst}
+use Rattle.rules.specs.Areas.{Store, Outcome, numberReply, memoryLength, areasFull, bits, half, packet, stamp, elem, distinct, asked, controlQuestions, tickQuestions, has, latchPlace}
+use Rattle.rules.specs.Board.{Board, Horizon, Latch, Idle, Time, Deadline, Mask, Outgoing, Delay, Routes, clock, free}
 use Rattle.rules.specs.Tick.{ticked}
 
 module _ (B : Board) where
-  open Board B using (clockBytes as c, stateLength, get, freshState)
+  open Board B using (clockBytes as c, stateLength, get, put, freshState)
 
   -- 1: does every lent area have its length?
   unfoldable pub full : Store → Bool
@@ -27,11 +26,8 @@ module _ (B : Board) where
   abbrev pub horizonSound : List ℕ → ℕ → Bool
   horizonSound s p = ltb (get s (Horizon, p)) (half c)
 
-  abbrev pub latchSound : List ℕ → Bool
-  latchSound s = ltb (get s (Latch, 1)) (half c) && (leb (get s (Latch, 2)) 31 && leb (get s (Latch, 3)) 31)
-
   unfoldable pub settingsSound : List ℕ → Bool
-  settingsSound s = all 256 (connectionSound s) && (all 5 (horizonSound s) && latchSound s)
+  settingsSound s = all 256 (connectionSound s) && (all 5 (horizonSound s) && (ltb (get s (Latch, 1)) (half c) && (leb (get s (Latch, 2)) 31 && leb (get s (Latch, 3)) 31)))
 
   -- The first n entries of the stack, top first.
   unfoldable pub stack : List ℕ → List ℕ
@@ -43,13 +39,6 @@ module _ (B : Board) where
 
   unfoldable pub stackSound : List ℕ → Bool
   stackSound s = leb (get s free) 256 && (distinct (stack s) && all 256 (listed s))
-
-  -- Slot i holds a packet; the free count and the packets stored.
-  abbrev pub occupied : List ℕ → ℕ → Bool
-  occupied s i = not (eqb (get s (Mask, i)) 0)
-
-  abbrev pub used : List ℕ → ℕ
-  used s = get s free + count 256 (occupied s)
 
   -- Slot i is empty, or its mask has five bits, deadline - time is a d in range, its time's offset is - d to 126 and the header in memory has its deadline.
   unfoldable pub slotSound : Store → ℕ → Bool
@@ -73,6 +62,26 @@ module _ (B : Board) where
   unfoldable pub tickRefusal : Store → ℕ → ℕ → List ℕ → List ℕ → List ℕ → ℕ
   tickRefusal r arriving waiting area out ans = asked ((full r && areasFull area out ans, 1) ∷ (sound r, 2) ∷ tickQuestions arriving waiting)
 
+  -- ---- control writes (document 01, "Control writes")
+
+  -- Register 3 commits registers 0, 1 and 2 to the entry of connection i.
+  abbrev pub commitEntry : ℕ → List ℕ → List ℕ
+  commitEntry i s = put (put (put s (Outgoing, i) (get s (Latch, 0))) (Delay, i) (get s (Latch, 1))) (Routes, i) (get s (Latch, 2))
+
+  -- Register 5 commits the horizon h, for each port below p that is in the mask m.
+  unfoldable pub commitHorizon : ℕ → ℕ → ℕ → List ℕ → List ℕ
+  commitHorizon zero m h s = s
+  commitHorizon (suc p) m h s = let s′ = commitHorizon p m h s in cond (has m p) (put s′ (Horizon, p) h) s′
+
+  -- The state after an accepted control write.
+  unfoldable pub written : ℕ → ℕ → List ℕ → List ℕ
+  written register v s =
+      cond (eqb register 3) (commitEntry v s)
+      (cond (eqb register 5) (commitHorizon 5 (get s (Latch, 3)) v s)
+      (put s (Latch, latchPlace register) v))
+
+  -- ---- the entries
+
   -- A fresh router: the given clock, and zero memory.
   unfoldable pub fresh : ℕ → Store
   fresh t = record { state = freshState t; memory = replicate memoryLength 0 }
@@ -83,7 +92,7 @@ module _ (B : Board) where
   unfoldable pub controlWrite : Store → ℕ → ℕ → Outcome Store
   controlWrite r register v =
       let n = controlRefusal r register v in
-      cond (eqb n 0) (record { reply = numberReply 0; after = record { state = written B register v (r .state); memory = r .memory } }) (record { reply = numberReply n; after = r })
+      cond (eqb n 0) (record { reply = numberReply 0; after = record { state = written register v (r .state); memory = r .memory } }) (record { reply = numberReply n; after = r })
 
   unfoldable pub tick : Store → ℕ → ℕ → List ℕ → List ℕ → List ℕ → Outcome Store
   tick r arriving waiting area out ans =

@@ -138,15 +138,12 @@ isHeld none = false
 isHeld (some x) = true
 
 -- A place emptied goes to the front of the free list.
-unfoldable pub freed : Option Held → Option Held → ℕ → List ℕ → List ℕ
-freed v h i l = cond (isHeld v && not (isHeld h)) (i ∷ l) l
-
 unfoldable pub emptied : ℤ → ℕ → Router → Router
 emptied T zero r = r
 emptied T (suc i) r =
     let r′ = emptied T i r in
     let h = remaining T (r′ .place i) in
-    withPlaces r′ (put (r′ .place) i h) (freed (r′ .place i) h i (r′ .free))
+    withPlaces r′ (put (r′ .place) i h) (cond (isHeld (r′ .place i) && not (isHeld h)) (i ∷ r′ .free) (r′ .free))
 
 abbrev pub advanced : Router → Router
 advanced r = record { clock = sucℤ (r .clock); horizon = r .horizon; latch = r .latch; entry = r .entry; place = r .place; free = r .free }

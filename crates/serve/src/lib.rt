@@ -8,7 +8,7 @@ ghost use lib.ListN.{length};
 ghost use Rattle.rules.specs.Areas.{memoryLength, outgoingLength, perPort, grantCode};
 ghost use Rattle.rules.specs.Board.{board8};
 ghost use Rattle.rules.specs.Tick.{grant, grantBytes, served, withdrawals, withdrawn, returned, advanced};
-ghost use Rattle.layout.specs.Room.{Room};
+ghost use Rattle.passes.specs.Room.{Room};
 ghost use Rattle.passes.specs.Empty.{EmptyFrom};
 ghost use Rattle.passes.specs.Sends.{Winner, sentBy};
 ghost use Rattle.choose.specs.Grants.{grantAt};
@@ -41,7 +41,7 @@ pub fn carry_out(
     end: usize,
 ) -> Served
     requires lengths { ⌜ (length (now state) ≡ board8 .stateLength) × (length (now memory) ≡ memoryLength) × (length (now outgoing) ≡ outgoingLength) ⌝ }
-    requires slots { ⌜ Room (now state) × EmptyFrom board8 (now state) end ⌝ }
+    requires slots { ⌜ Room board8 (now state) × EmptyFrom board8 (now state) end ⌝ }
     requires grants { ⌜ (length grants ≡ 5) × ((p : ℕ) → p < 5 → Winner board8 (now state) p (grantAt grants p)) ⌝ }
     ensures ports { λ r. ⌜ r .codes ≡ perPort (λ p. grantCode (grantAt grants p) ∷ []) ⌝ }
     ensures packets { λ _. ⌜ now (outgoing .exit) ≡ perPort (λ p. grantBytes (now (memory .entry)) (grantAt grants p)) ⌝ }
@@ -58,7 +58,7 @@ pub fn carry_out(
 // Steps 2 to 6.
 pub fn serve_and_settle(state: &mut [u8], memory: &[u8], outgoing: &mut [u8], waiting: u8) -> Served
     requires lengths { ⌜ (length (now state) ≡ board8 .stateLength) × (length (now memory) ≡ memoryLength) × (length (now outgoing) ≡ outgoingLength) ⌝ }
-    requires room { ⌜ Room (now state) ⌝ }
+    requires room { ⌜ Room board8 (now state) ⌝ }
     ensures ports { λ r. ⌜ r .codes ≡ perPort (λ p. grantCode (grant board8 (served board8 p waiting (now (state .entry))) waiting p) ∷ []) ⌝ }
     ensures packets { λ _. ⌜ now (outgoing .exit) ≡ perPort (λ p. grantBytes (now (memory .entry)) (grant board8 (served board8 p waiting (now (state .entry))) waiting p)) ⌝ }
     ensures withdrawn { λ r. ⌜ r .counts ≡ perPort (λ p. withdrawals board8 (served board8 5 waiting (now (state .entry))) p ∷ []) ⌝ }

@@ -4,7 +4,7 @@ ghost use Prim.Native.Nat.{ℕ, _+_, _<_, _≤_};
 ghost use lib.ListN.{length, getD};
 ghost use Rattle.rules.specs.Board.{Mask, free, board8};
 ghost use Rattle.rules.specs.Tick.{giveBack};
-ghost use Rattle.layout.specs.Room.{Room};
+ghost use Rattle.passes.specs.Room.{Room};
 ghost use Rattle.passes.specs.Empty.{EmptyFrom};
 ghost use Rattle.passes.specs.Ports.{EachPort, changed};
 ghost use Rattle.passes.specs.Settling.{slotAfter, slotCount, settled, missed};
@@ -75,7 +75,7 @@ fn settle_slot(
 // Steps 3 to 5 for all slots, where the ports in `sent` send each; those from `end` on are empty. What is withdrawn is counted, port by port.
 pub fn settle(state: &mut [u8], sent: &[u8; Router::SLOTS], end: usize) -> [u16; Router::PORTS]
     requires slots { ⌜ (length (now state) ≡ board8 .stateLength) × EmptyFrom board8 (now state) end ⌝ }
-    requires room { ⌜ Room (now state) ⌝ }
+    requires room { ⌜ Room board8 (now state) ⌝ }
     requires sent { ⌜ ((i : ℕ) → getD (now sent) i 0 ≤ board8 .get (now state) (Mask, i)) ⌝ }
     ensures counts { λ r. ⌜ EachPort (missed board8 (now (state .entry)) (now (sent .entry)) 256) r ⌝ }
     ensures after { λ _. ⌜ now (state .exit) ≡ settled board8 (now (state .entry)) (now (sent .entry)) 256 ⌝ }

@@ -10,7 +10,7 @@ ghost use Rattle.rules.specs.Clock.{offset};
 ghost use Rattle.rules.specs.Areas.{memoryLength, bits, elem};
 ghost use Rattle.rules.specs.Board.{board8};
 ghost use Rattle.rules.specs.Questions.{connectionSound, horizonSound, settingsSound, stack, listed, stackSound, slotSound, slotsSound, sound};
-ghost use Rattle.layout.specs.Room.{Room};
+ghost use Rattle.passes.specs.Room.{Room};
 ghost use Rattle.passes.specs.Stores.{store};
 ghost use Rattle.passes.specs.Stack.{Marked};
 use layout::ClockReading;
@@ -111,7 +111,7 @@ fn all_listed(state: &[u8], seen: &[bool; Router::SLOTS]) -> bool
 fn stack_sound(state: &[u8]) -> bool
     requires { ⌜ length (now state) ≡ board8 .stateLength ⌝ }
     ensures sound { λ r. ⌜ r ≡ stackSound board8 (now (state .entry)) ⌝ }
-    ensures room { λ r. ⌜ (r ≡ true → Room (now (state .entry))) ⌝ }
+    ensures room { λ r. ⌜ (r ≡ true → Room board8 (now (state .entry))) ⌝ }
 {
     let n = layout::free_count(state);
     if 256 < n {
@@ -175,7 +175,7 @@ fn slots_sound(state: &[u8], memory: &[u8]) -> bool
 pub fn is_sound(state: &[u8], memory: &[u8]) -> bool
     requires { ⌜ (length (now state) ≡ board8 .stateLength) × (length (now memory) ≡ memoryLength) ⌝ }
     ensures sound { λ r. ⌜ r ≡ sound board8 (store (now (state .entry)) (now (memory .entry))) ⌝ }
-    ensures room { λ r. ⌜ (r ≡ true → Room (now (state .entry))) ⌝ }
+    ensures room { λ r. ⌜ (r ≡ true → Room board8 (now (state .entry))) ⌝ }
 {
     if !settings_sound(state) {
         return false;

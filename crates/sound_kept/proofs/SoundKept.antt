@@ -17,9 +17,10 @@ use Rattle.rules.specs.Board.{Board, Horizon, Latch, Idle, Time, Deadline, Mask
 use Rattle.rules.specs.Calls.{Call, control, tick, fed, feed, wholeStep, afterAll}
 use Rattle.rules.specs.Clock.{cut, plus, offset}
 use Rattle.rules.specs.Demand3.{HeldShown, byteStep}
-use Rattle.rules.specs.Questions.{full, sound, stack, occupied}
+use Rattle.rules.specs.Questions.{full, sound, stack}
 use Rattle.sound_kept.specs.SoundKept.{Intact, SoundKept}
 use Rattle.rules.specs.Whole.{Packet, Held, Router, packetBytes, isHeld}
+use Rattle.passes.specs.Room.{occupied}
 use Rattle.rules.proofs.BoardLaws.{Laws}
 use Rattle.rules.proofs.Board8Laws.{lawful8}
 use Rattle.rules.proofs.Booleans.{and-left, and-right, some-inj, none-some}
@@ -32,7 +33,7 @@ use Rattle.rules.proofs.StateLaws.{reads-self, reads-as, length-stack}
 use Rattle.rules.proofs.Good.{HeldInWindow, Busy, Good}
 use Rattle.rules.proofs.Relation.{on-settings, shown, SlotShows, Rel, rel-free}
 use Rattle.rules.proofs.Soundness.{Sound, StoredSound, delayOf, offsetOf, at-elem, stack-lists, stack-iff, sound-iff}
-use Rattle.rules.proofs.Room.{sound-used}
+use Rattle.passes.proofs.Room.{sound-used}
 use Rattle.rules.proofs.Refine.{mask-held, rel-full, rel-sound}
 use Rattle.rules.proofs.Agreement.{start-good, fresh-rel, agreed}
 use Rattle.rules.proofs.Feed.{feed-proper}

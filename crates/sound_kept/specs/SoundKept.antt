@@ -8,6 +8,7 @@ use Rattle.rules.specs.Board.{Board}
 use Rattle.rules.specs.Questions as Q
 use Rattle.rules.specs.Calls.{Call, ByteCall, afterAll}
 use Rattle.rules.specs.Demand3.{byteStep}
+use Rattle.passes.specs.Room.{used}
 
 module _ (B : Board) where
   open Board B using (clockBytes as c, get)
@@ -16,7 +17,7 @@ module _ (B : Board) where
   pub record Intact (r : Store) : Type 0 where
     pub full : Q.full B r ≡ true
     pub sound : Q.sound B r ≡ true
-    pub slots : Q.used B (r .state) ≡ 256
+    pub slots : used B (r .state) ≡ 256
 
   -- A fresh router is intact, and so is what any calls, accepted or refused, leave of a sound state and memory.
   pub record SoundKept : Type 0 where

@@ -6,7 +6,7 @@ ghost use mathlib.Core.List.{[], _∷_};
 ghost use Rattle.rules.specs.Areas.{byte, perPort, answersLength, answersArea, Outcome, Store};
 ghost use Rattle.rules.specs.Board.{board8};
 ghost use Rattle.rules.specs.Tick.{ticked};
-ghost use Rattle.layout.specs.Room.{Lent};
+ghost use Rattle.passes.specs.Room.{Lent};
 use layout::Router;
 
 // Where the answers of the arrivals start, and the counts of packets withdrawn.
@@ -66,7 +66,7 @@ pub fn work(
     arriving: u8,
     waiting: u8,
 )
-    requires { ⌜ Lent (now state) (now memory) (now arrivals) (now outgoing) (now answers) ⌝ }
+    requires { ⌜ Lent board8 (now state) (now memory) (now arrivals) (now outgoing) (now answers) ⌝ }
     ensures { λ _. ⌜ _≡_ {A = Outcome Store}
         (record { reply = record { number = 0; outgoing = now (outgoing .exit); answers = now (answers .exit) }; after = record { state = now (state .exit); memory = now (memory .exit) } })
         (ticked board8 (record { state = now (state .entry); memory = now (memory .entry) }) arriving waiting (now (arrivals .entry))) ⌝ }

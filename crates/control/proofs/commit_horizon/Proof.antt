@@ -10,7 +10,7 @@ use native.Mathlib.Omega.{arith}
 use lib.ListN.{length}
 use Rattle.rules.specs.Areas.{has}
 use Rattle.rules.specs.Board.{Horizon, board8}
-use Rattle.rules.specs.Control.{commitHorizon}
+use Rattle.rules.specs.Questions.{commitHorizon}
 use Rattle.control.specs.declared.Latch.{Latch}
 use borrow.Author.Needs.{needs}
 use Rattle.control.proofs.commit_horizon.Statement.{statement}

@@ -8,7 +8,7 @@ use native.Mathlib.Omega.{arith}
 use borrow.Author.Needs.{needs}
 use Rattle.rules.specs.Areas.{latchPlace}
 use Rattle.rules.specs.Board.{Latch as LatchField, board8}
-use Rattle.rules.specs.Control.{written}
+use Rattle.rules.specs.Questions.{written}
 use Rattle.control.specs.declared.Latch.{Latch}
 use Rattle.control.specs.Latches.{latchWith, latchByte}
 use Rattle.control.proofs.write_register.Statement.{statement}

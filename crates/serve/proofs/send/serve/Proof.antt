@@ -4,7 +4,7 @@ use Rattle.choose.specs.Grants.{grantAt}
 use Rattle.passes.specs.Sends.{sends}
 use Rattle.passes.proofs.Packets.{filled-number}
 use Rattle.passes.proofs.Sends.{sends-lt}
-use Rattle.rules.specs.Areas.{outgoingLength, packetLength, grantCode, portsBelow}
+use Rattle.rules.specs.Areas.{packetLength, grantCode, portsBelow}
 use Rattle.rules.specs.Tick.{grantBytes}
 use Rattle.rules.proofs.AreaLaws.{filled, filled-next, filled-all}
 use lib.ListN.{length, replicate}
@@ -12,7 +12,7 @@ use native.Mathlib.Numerals.{add-one}
 use native.Mathlib.Omega.{arith}
 use borrow.Author.Needs.{needs}
 use mathlib.Core.List.{[], _∷_}
-use mathlib.Core.Path.{_≡_, refl, ap, _∙_}
+use mathlib.Core.Path.{_≡_, refl, _∙_}
 use Prim.Native.Nat.{ℕ, _-_, _≤_}
 use Rattle.serve.proofs.send.serve.Statement.{statement}
 use Rattle.serve.proofs.send.serve.Tie as tie

@@ -9,18 +9,19 @@ use native.Mathlib.Omega.{arith}
 use lib.ListN.{length}
 use lib.Dec.{eqb}
 use borrow.Author.Tests.{ne-eqb}
 use Rattle.rules.specs.Areas.{Store, byte, bits, stamp, elem, distinct}
 use Rattle.rules.specs.Board.{Board, Idle, Time, Deadline, Mask, Delay, Routes, free}
 use Rattle.rules.specs.Clock.{plus}
 use Rattle.rules.specs.Order.{count, counted}
-use Rattle.rules.specs.Questions.{stack, stackSound, occupied, used}
+use Rattle.rules.specs.Questions.{stack, stackSound}
+use Rattle.passes.specs.Room.{occupied, used}
 use Rattle.rules.specs.Tick.{placed}
 use Rattle.rules.proofs.Booleans.{and-left, and-right, not-false}
 use Rattle.rules.proofs.BoardLaws.{Laws, sameField}
 use Rattle.rules.proofs.WholeLaws.{elem-first, elem-other}
 use Rattle.rules.proofs.Soundness.{at-elem, stack-lists}
 use Rattle.rules.proofs.StateLaws.{Reads, none-out, reads-self, reads-put, length-topFirst}
 use Rattle.rules.proofs.IndexLaws.{count-same, count-change, count-none, counted-true, counted-false}
 
 -- ---- counts
 
