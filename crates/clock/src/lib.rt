@@ -5,6 +5,7 @@ ghost use lib.Signed.{leZ};
 ghost use Rattle.rules.specs.Clock.{plus, minus, offset};
 ghost use Rattle.rules.specs.Areas.{bits};
 use layout::ClockReading;
+use layout::Router;
 
 // The time d ticks after t.
 pub fn later(t: ClockReading, d: u8) -> ClockReading
@@ -28,7 +29,7 @@ pub fn on_time(time: ClockReading, t: ClockReading) -> bool
     if x == 0 {
         return true;
     }
-    128 <= x
+    Router::HALF <= x
 }
 
 // The offset is at least -d.
@@ -36,7 +37,7 @@ pub fn in_time(time: ClockReading, t: ClockReading, d: u8) -> bool
     ensures { λ r. ⌜ r ≡ leZ (negℤ (pos d)) (offset (bits 1) (time .0) (t .0)) ⌝ }
 {
     let x = since(time, t);
-    if x < 128 {
+    if x < Router::HALF {
         return true;
     }
     256 - (x as u16) <= d as u16

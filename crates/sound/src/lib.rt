@@ -24,10 +24,10 @@ fn connection_sound(state: &[u8], c: ConnectionId) -> bool
     requires { ⌜ length (now state) ≡ board8 .stateLength ⌝ }
     ensures { λ r. ⌜ r ≡ connectionSound board8 (now (state .entry)) (c .0) ⌝ }
 {
-    if 128 <= layout::read(state, Field::Delay(c)) {
+    if Router::HALF <= layout::read(state, Field::Delay(c)) {
         return false;
     }
-    layout::read(state, Field::Routes(c)) <= 31
+    layout::read(state, Field::Routes(c)) <= Router::ALL_PORTS
 }
 
 fn connections_sound(state: &[u8]) -> bool
@@ -50,7 +50,7 @@ fn horizons_sound(state: &[u8]) -> bool
 {
     let mut p = 0;
     while p < Router::PORTS {
-        let in_range = layout::read(state, Field::Horizon(p as u8)) < 128;
+        let in_range = layout::read(state, Field::Horizon(p as u8)) < Router::HALF;
         if !in_range {
             return false;
         }
@@ -70,9 +70,9 @@ fn settings_sound(state: &[u8]) -> bool
     if !horizons_sound(state) {
         return false;
     }
-    let delay = layout::read(state, Field::Latch(1)) < 128;
-    let routes = layout::read(state, Field::Latch(2)) <= 31;
-    let horizons = layout::read(state, Field::Latch(3)) <= 31;
+    let delay = layout::read(state, Field::Latch(1)) < Router::HALF;
+    let routes = layout::read(state, Field::Latch(2)) <= Router::ALL_PORTS;
+    let horizons = layout::read(state, Field::Latch(3)) <= Router::ALL_PORTS;
     delay & (routes & horizons)
 }
 
@@ -141,13 +141,13 @@ fn slot_sound(state: &[u8], memory: &[u8], s: SlotAddress) -> bool
     if mask == 0 {
         return true;
     }
-    if 31 < mask {
+    if Router::ALL_PORTS < mask {
         return false;
     }
     let time = ClockReading(layout::read(state, Field::Time(s)));
     let deadline = ClockReading(layout::read(state, Field::Deadline(s)));
     let d = clock::since(deadline, time);
-    if 128 <= d {
+    if Router::HALF <= d {
         return false;
     }
     let t = ClockReading(layout::read(state, Field::Clock));
