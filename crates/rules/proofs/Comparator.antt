@@ -20,11 +20,13 @@ abbrev pub keyOf : Bool → Packet → ℤ
 keyOf e x = cond e (x .time) (x .deadline)
 
 module _ (c : ℕ) where
-  -- What it sees of a slot that shows the packet, at the clock cut to a reading of c bytes.
+  -- What it sees of a slot by its time, its deadline and the clock.
+  abbrev pub keyAt : ℕ → ℕ → ℕ → Key ℕ
+  keyAt u v t = let e = ltZ (pos 0) (offset (bits c) u t) in record { early = e; key = minus (bits c) (cond e u v) t }
+
+  -- Of one that shows the packet, at the clock cut to a reading of c bytes.
   abbrev pub readKey : ℤ → Packet → Key ℕ
-  readKey t x =
-      let e = ltZ (pos 0) (offset (bits c) (cut (bits c) (x .time)) (cut (bits c) t)) in
-      record { early = e; key = minus (bits c) (cond e (cut (bits c) (x .time)) (cut (bits c) (x .deadline))) (cut (bits c) t) }
+  readKey t x = keyAt (cut (bits c) (x .time)) (cut (bits c) (x .deadline)) (cut (bits c) t)
 
   module _ (t : ℤ) (x : Packet) (F : InWindow c t (half c) x) where
     -- It is early where the packet is.

@@ -159,18 +159,22 @@ strict-on-time-first : Strict onTimeFirst
 unfolding onTimeFirst
 strict-on-time-first = record { irrefl = irrefl; trans = trans; cotrans = cotrans }
   where
-    irrefl : (x : Bool) → (not x && x) ≡ true → ⊥
+    irrefl : (x : Bool) → onTimeFirst x x ≡ true → ⊥
     irrefl true e = true≢false (sym e)
     irrefl false e = true≢false (sym e)
 
-    trans : (x y z : Bool) → (not x && y) ≡ true → (not y && z) ≡ true → (not x && z) ≡ true
-    trans true y z e q = absurd (true≢false (sym e))
-    trans false true z e q = absurd (true≢false (sym q))
-    trans false false z e q = absurd (true≢false (sym e))
+    trans : (x y z : Bool) → onTimeFirst x y ≡ true → onTimeFirst y z ≡ true → onTimeFirst x z ≡ true
+    trans true true z e q = q
+    trans true false z e q = cc
+    trans false true z e q = cc
+    trans false false z e q = q
 
-    cotrans : (x y z : Bool) → (not x && z) ≡ true → ((not x && y) ≡ true) ⊎ ((not y && z) ≡ true)
-    cotrans true y z e = absurd (true≢false (sym e))
-    cotrans false true z e = inl refl
+    cotrans : (x y z : Bool) → onTimeFirst x z ≡ true → (onTimeFirst x y ≡ true) ⊎ (onTimeFirst y z ≡ true)
+    cotrans true true z e = inr e
+    cotrans true false true e = inl cc
+    cotrans true false false e = inl e
+    cotrans false true true e = inl e
+    cotrans false true false e = inl cc
     cotrans false false z e = inr e
 
 pub strict-comparator : {K : Type 0} {less : Order K} → Strict less → Strict (comparator less)

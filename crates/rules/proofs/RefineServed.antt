@@ -21,7 +21,7 @@ use Rattle.rules.proofs.BoardLaws.{Laws, sameField}
 use Rattle.rules.specs.Tick as Tick
 use Rattle.rules.specs.Whole as Whole
 use Rattle.rules.proofs.IndexLaws.{Keys, Least, least-same}
-use Rattle.rules.proofs.Comparator.{readKey, read-early, read-key, comparator-whole}
+use Rattle.rules.proofs.Comparator.{keyAt, readKey, read-early, read-key, comparator-whole}
 use Rattle.rules.proofs.Masks.{has-zero}
 use Rattle.rules.proofs.WholeLaws.{AllHeld}
 use Rattle.rules.proofs.Grants.{Rests, grant-rests, toServe-held}
@@ -80,7 +80,7 @@ module _ (B : Board) (L : Laws B) where
     slot-keys i l = go (w .place i) refl (R .place i l)
       where
         at : (h : Held) → HeldShown B r i h → InWindow c t (half c) (h .packet) → (a : Bool) → Keys (comparator ltb) before IsKey key-order (cond a (some (slotKey B s i)) none) (cond a (some (h .packet)) none)
-        at h H F true = (rw (H .time, H .deadline, clock-same), F)
+        at h H F true = (ap₂ (λ (u v : ℕ). keyAt c u v (get s clock)) (H .time) (H .deadline) ∙ ap (keyAt c (cut (bits c) (h .packet .time)) (cut (bits c) (h .packet .deadline))) clock-same, F)
         at h H F false = tt
 
         go : (v : Option Held) → w .place i ≡ v → SlotShows B L r i v → Keys (comparator ltb) before IsKey key-order (candidate B s p i) (toServe v p)
@@ -94,7 +94,10 @@ module _ (B : Board) (L : Laws B) where
     granted-same h none none q false = refl
     granted-same h none (some w) q b = absurd q
     granted-same h (some v) none q b = absurd q
-    granted-same h (some (i, k)) (some (j, x)) (z, (q, F)) b = rw (z, q, read-early c t x F) (go (ltZ t (x .time)) refl b)
+    granted-same h (some (i, k)) (some (j, x)) (z, (q, F)) b =
+        ap₂ (λ (i : ℕ) (k : Key ℕ). Tick.granted (some (i, k)) b h) z q
+        ∙ ap (λ (e : Bool). Tick.granted (some (j, record { early = e; key = n e })) b h) (read-early c t x F)
+        ∙ go (ltZ t (x .time)) refl b
       where
         n : Bool → ℕ
         n e = minus (bits c) (cond e (cut (bits c) (x .time)) (cut (bits c) (x .deadline))) (cut (bits c) t)
@@ -103,7 +106,7 @@ module _ (B : Board) (L : Laws B) where
         near true = refl
         near false = refl
 
-        go : (e : Bool) → ltZ t (x .time) ≡ e → (b : Bool) → cond e (cond b bestEffort (cond (leb (n e) h) (early j) nobody)) (onTime j) ≡ strip (cond e (cond b bestEffort (cond (leZ (x .time -ℤ t) (pos h)) (early (j, x)) nobody)) (onTime (j, x)))
+        go : (e : Bool) → ltZ t (x .time) ≡ e → (b : Bool) → Tick.granted (some (j, record { early = e; key = n e })) b h ≡ strip (cond e (cond b bestEffort (cond (leZ (x .time -ℤ t) (pos h)) (early (j, x)) nobody)) (onTime (j, x)))
         go false y b = refl
         go true y true = refl
         go true y false = subst (λ (z : ℤ). cond (leb (n true) h) (early j) nobody ≡ strip (cond (leZ z (pos h)) (early (j, x)) nobody)) (read-key c t x F true y) (near (leb (n true) h))
