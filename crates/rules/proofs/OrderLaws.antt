@@ -165,8 +165,10 @@ strict-on-time-first = record { irrefl = irrefl; trans = trans; cotrans = cotran
 
     trans : (x y z : Bool) → onTimeFirst x y ≡ true → onTimeFirst y z ≡ true → onTimeFirst x z ≡ true
     trans true true z e q = q
-    trans true false z e q = cc
-    trans false true z e q = cc
+    trans true false true e q = cc
+    trans true false false e q = e
+    trans false true true e q = e
+    trans false true false e q = cc
     trans false false z e q = q
 
     cotrans : (x y z : Bool) → onTimeFirst x z ≡ true → (onTimeFirst x y ≡ true) ⊎ (onTimeFirst y z ≡ true)
