@@ -72,12 +72,12 @@ fn look(state: &[u8], t: ClockReading, s: SlotAddress, bests: &mut [u32; Router:
     offer(bests, mask, rank(state, t, s));
 }
 
-// All slots from this one on are empty.
+// All slots from this one on are empty. It is never 0: a pass looks at slot 0 in any case, and starts without a test.
 pub fn end(state: &[u8]) -> usize
     ensures { λ r. ⌜ EmptyFrom board8 (now (state .entry)) r ⌝ }
 {
     let mut e: usize = Router::SLOTS;
-    while 0 < e {
+    while 1 < e {
         if layout::get(state, Field::Mask(SlotAddress((e - 1) as u8))) != 0 {
             return e;
         }

@@ -21,6 +21,17 @@ const BEST_EFFORT: u8 = 2;
 
 const EARLY: u8 = 3;
 
+fn code(g: Grant) -> u8
+    ensures { λ r. ⌜ r ≡ Areas.grantCode (grantOf g) ⌝ }
+{
+    match g {
+        Grant::Nobody => IDLE,
+        Grant::OnTime(_) => ON_TIME,
+        Grant::BestEffort => BEST_EFFORT,
+        Grant::Early(_) => EARLY,
+    }
+}
+
 // The port sends nothing.
 fn send_nothing(outgoing: &mut [u8], port: u8)
     requires { ⌜ (length (now outgoing) ≡ Areas.outgoingLength) × (port < 5) ⌝ }
@@ -60,38 +71,24 @@ fn join(sent: &mut [u8; Router::SLOTS], port: u8, s: SlotAddress)
     sent[i] = sent[i] + (1 << port);
 }
 
-// Step 3 for one port that has this grant, and what it answers.
+// Step 3 for one port that has this grant.
 fn serve_port(
     memory: &[u8],
     outgoing: &mut [u8],
     sent: &mut [u8; Router::SLOTS],
     port: u8,
     g: Grant,
-) -> u8
+)
     requires lengths { ⌜ (length (now memory) ≡ Areas.memoryLength) × (length (now outgoing) ≡ Areas.outgoingLength) ⌝ }
     requires before { ⌜ (port < 5) × ((i : ℕ) → getD (now sent) i 0 < 2 ^ port) ⌝ }
-    ensures code { λ r. ⌜ r ≡ Areas.grantCode (grantOf g) ⌝ }
     ensures packet { λ _. ⌜ now (outgoing .exit) ≡ sets (now (outgoing .entry)) (Areas.packetLength * port) (grantBytes (now (memory .entry)) (grantOf g)) ⌝ }
     ensures after { λ _. ⌜ now (sent .exit) ≡ joined port (grantOf g) (now (sent .entry)) ⌝ }
 {
     match g {
-        Grant::Nobody => {
-            send_nothing(outgoing, port);
-            IDLE
-        }
-        Grant::OnTime(s) => {
+        Grant::Nobody | Grant::BestEffort => send_nothing(outgoing, port),
+        Grant::OnTime(s) | Grant::Early(s) => {
             send(memory, outgoing, port, s);
             join(sent, port, s);
-            ON_TIME
-        }
-        Grant::BestEffort => {
-            send_nothing(outgoing, port);
-            BEST_EFFORT
-        }
-        Grant::Early(s) => {
-            send(memory, outgoing, port, s);
-            join(sent, port, s);
-            EARLY
         }
     }
 }
@@ -113,7 +110,8 @@ pub fn serve(
     let mut p: usize = 0;
     while p < Router::PORTS {
         let g = grants[p];
-        codes[p] = serve_port(memory, outgoing, sent, p as u8, g);
+        serve_port(memory, outgoing, sent, p as u8, g);
+        codes[p] = code(g);
         p += 1;
     }
     codes

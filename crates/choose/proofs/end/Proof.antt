@@ -21,7 +21,8 @@ returns : tie.Need-returns Inv-loop μ-loop
 returns c = c .before .before .before .loop .inv
 
 loop-again : tie.Need-loop-again Inv-loop μ-loop
-loop-again c = empty-less board8 _ _ (c .before .before .loop-test .taken) (c .before .before .before .loop .inv) (sym (c .before .get .ensures) ∙ c .if1 .left)
+loop-again c = let l = c .before .before .before .loop in
+    empty-less board8 _ (l .e) (omega arith) (l .inv) (sym (c .before .get .ensures) ∙ c .if1 .left)
 
 returns-2 : tie.Need-returns-2 Inv-loop μ-loop
 returns-2 c = c .before .loop .inv

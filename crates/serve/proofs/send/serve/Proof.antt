@@ -37,20 +37,20 @@ serve-port-requires c κs = let c₄ = c .before .before .before .before in
 
 loop-again : tie.Need-loop-again Inv-loop μ-loop
 unfolding sends
-loop-again c = let c₂ = c .before .before in
-    let c₇ = c₂ .before .before .before .before .before in
-    let l = c₇ .loop in
-    let c₁₀ = c₇ .before .before .before in
-    let g = grantAt (c₁₀ .args .t4) in
-    let m = c₁₀ .args .memory .now in
-    let o = c₁₀ .args .outgoing .now in
-    let n = c₁₀ .pre .0 .1 in
-    let e = c₂ .serve-port .ensures in (
+loop-again c = let c₃ = c .before .before .before in
+    let c₈ = c₃ .before .before .before .before .before in
+    let l = c₈ .loop in
+    let c₁₁ = c₈ .before .before .before in
+    let g = grantAt (c₁₁ .args .t4) in
+    let m = c₁₁ .args .memory .now in
+    let o = c₁₁ .args .outgoing .now in
+    let n = c₁₁ .pre .0 .1 in
+    let e = c₃ .serve-port .ensures in (
       search needs,
-      c₂ .serve-port .kept .1 .0 ∙ l .inv .1,
-      rw (add-one (l .p)) (e .1 .0 ∙ rw (l .inv .2) (filled-next packetLength (λ (q : ℕ). grantBytes m (g q)) o (l .p) (λ q h. c₁₀ .pre .1 .1 q (omega arith)) (omega arith))),
-      rw (add-one (l .p), e .0, l .inv .3) (filled-number (λ (q : ℕ). grantCode (g q)) (replicate 5 0) (l .p) (omega arith)),
-      rw (add-one (l .p)) (e .1 .1 ∙ rw (l .inv .4)),
+      c₃ .serve-port .kept .1 .0 ∙ l .inv .1,
+      rw (add-one (l .p)) (e .0 ∙ rw (l .inv .2) (filled-next packetLength (λ (q : ℕ). grantBytes m (g q)) o (l .p) (λ q h. c₁₁ .pre .1 .1 q (omega arith)) (omega arith))),
+      rw (add-one (l .p), c .code .ensures, l .inv .3) (filled-number (λ (q : ℕ). grantCode (g q)) (replicate 5 0) (l .p) (omega arith)),
+      rw (add-one (l .p)) (e .1 ∙ rw (l .inv .4)),
     )
 
 returns : tie.Need-returns Inv-loop μ-loop
@@ -75,6 +75,7 @@ serve-spec =
     (λ c. search needs)
     (λ c. search needs)
     serve-port-requires
+    (λ c κs. search needs)
     (λ c. search needs)
     (λ c. search needs)
     (λ c. search needs)
