@@ -4,8 +4,9 @@ use Prim.Native.Nat.{ℕ, _+_, _<_}
 use mathlib.Core.Path.{_≡_, refl, sym, ap, subst, _∙_}
 use mathlib.Core.Bool.{Bool, true, false}
 use mathlib.Core.List.{List, [], _∷_, _++_, List·Memᴰ, List·Memᴰ·head, List·Memᴰ·tail, Memᴰ·append-left, Memᴰ·append-right}
-use mathlib.Core.Logic.{_≢_}
+use mathlib.Core.Logic.{_≢_, ⊎-elim}
 use native.Mathlib.Decide.{decLt}
+use native.Mathlib.Nat.{eq-zero-or-pos}
 use native.Mathlib.Omega.{arith}
 use lib.Dec.{T}
 use lib.IntN.{ℤ, sucℤ}
@@ -67,11 +68,8 @@ idle-else e p x L q n = go (isSent x (e .report .grant p)) refl (decLt 0 (times 
 
 -- Once the clock has passed its deadline, nothing is left of a packet.
 none-left : {h : List NotedTick} {w : Router} {p : ℕ} {x : Packet} → Account 1 h w x p → T (leZ (sucℤ (x .deadline)) (w .clock)) → leftOn p x (w .place) ≡ 0
-none-left {w = w} {p = p} {x = x} C l = go (decLt 0 (leftOn p x (w .place)))
-  where
-    go : Dec (0 < leftOn p x (w .place)) → leftOn p x (w .place) ≡ 0
-    go (yes n) = let k = C .in-time n .le in absurd (omega (arith, orders, suc-nat (x .deadline)))
-    go (no n) = omega arith
+none-left {w = w} {p = p} {x = x} C l =
+    ⊎-elim (λ z. z) (λ n. let k = C .in-time n .le in absurd (omega (arith, orders, suc-nat (x .deadline)))) (eq-zero-or-pos (leftOn p x (w .place)))
 
 pub no-third : NoThird
 unfolding NoThird
