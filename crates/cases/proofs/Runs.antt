@@ -25,6 +25,7 @@ gives t h ks rs n m p w s e =
 
 pub runs : Runs
 unfolding Runs computing S.turning S.turningReplies S.belowZero S.belowZeroReplies
-runs =
-    (gives 254 (omega arith) S.turning S.turningReplies 255 1 refl refl refl refl,
-    gives 2 (omega arith) S.belowZero S.belowZeroReplies 256 0 refl refl refl refl)
+runs = (
+  gives 254 (omega arith) S.turning S.turningReplies 255 1 refl refl refl refl,
+  gives 2 (omega arith) S.belowZero S.belowZeroReplies 256 0 refl refl refl refl,
+)
