@@ -1,11 +1,11 @@
 // Control writes: the control latch, the two commits, and which value fits a register.
 ghost use mathlib.Core.Path.{_≡_};
 ghost use Prim.Native.Nat.{_≤_};
-ghost use Rattle.rules.specs.Areas.{fits};
+ghost use Rattle.rules.specs.Areas.{fits, latchPlace};
 ghost use Rattle.rules.specs.Board.{latch};
 ghost use Rattle.rules.specs.Board8.{board8};
 ghost use Rattle.rules.specs.Control.{commitEntry, commitHorizon, written};
-ghost use Rattle.control.specs.Latches.{latchOf, latchWith};
+ghost use Rattle.control.specs.Latches.{latchOf, latchWith, latchByte};
 use layout::ConnectionId;
 use layout::Field;
 use layout::Router;
@@ -49,6 +49,18 @@ impl Latch {
         }
         next
     }
+
+    // The byte of a stored register: 0, 1, 2 or 4.
+    fn byte(self, register: u8) -> u8
+        ensures { λ r. ⌜ r ≡ latchByte self register ⌝ }
+    {
+        match register {
+            0 => self.outgoing,
+            1 => self.delay,
+            2 => self.routes,
+            _ => self.horizons,
+        }
+    }
 }
 
 // Stores a register through a reference.
@@ -64,6 +76,13 @@ fn stored_in(mut latch: Latch, register: u8, value: u8) -> Latch
 {
     store(&mut latch, register, value);
     latch
+}
+
+// Where a stored register waits in the latch.
+fn latch_place(register: u8) -> u8
+    ensures { λ r. ⌜ r ≡ latchPlace register ⌝ }
+{
+    if register == 4 { 3 } else { register }
 }
 
 // Register 3: the latch becomes the entry of a connection.
@@ -98,14 +117,14 @@ pub fn write_register(state: &mut [u8], register: u8, value: u8)
     requires { ⌜ register ≤ 5 ⌝ }
     ensures { λ _. ⌜ now (state .exit) ≡ written board8 register value (now (state .entry)) ⌝ }
 {
-    let latch = stored_in(Latch::read(state), register, value);
     match register {
-        0 => layout::put(state, Field::Latch(0), latch.outgoing),
-        1 => layout::put(state, Field::Latch(1), latch.delay),
-        2 => layout::put(state, Field::Latch(2), latch.routes),
         3 => commit_entry(state, ConnectionId(value)),
-        4 => layout::put(state, Field::Latch(3), latch.horizons),
-        _ => commit_horizon(state, value),
+        5 => commit_horizon(state, value),
+        _ => {
+            let latch = stored_in(Latch::read(state), register, value);
+            let place = latch_place(register);
+            layout::put(state, Field::Latch(place), latch.byte(register))
+        }
     }
 }
 

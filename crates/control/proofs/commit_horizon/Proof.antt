@@ -2,7 +2,7 @@
 -- is what is left of five. Assumes nothing.
 use Prim.Native.Nat.{_-_, _≤_}
 use mathlib.Core.Logic.{⊎-elim}
-use mathlib.Core.Path.{_≡_, refl, ap}
+use mathlib.Core.Path.{_≡_, refl, sym, ap, _∙_}
 use native.Mathlib.Numerals.{add-one}
 use native.Mathlib.Omega.{arith}
 use lib.ListN.{length}
@@ -29,8 +29,8 @@ loop-again c =
     let l = c .before .before .before .loop in
     let is = c .before .has-port .ensures in
     ⊎-elim
-    (λ w. (search needs, search needs, rw (add-one (l .port), ← l .inv .2, ← is, w .0 .taken) (cc)))
-    (λ w. (search needs, search needs, rw (add-one (l .port), ← l .inv .2, ← is, w .0 .left) (cc)))
+    (λ w. (search needs, search needs, rw (add-one (l .port), ← l .inv .2, sym is ∙ w .0 .taken) (cc)))
+    (λ w. (search needs, search needs, rw (add-one (l .port), ← l .inv .2, sym is ∙ w .0 .left) (cc)))
     (c .if1 .came)
 
 returns : tie.Need-returns Inv-loop μ-loop

@@ -1,47 +1,51 @@
--- `control::write_register` meets its contract: the arms are the cases of `written`. A stored register's byte in the latch is the value. Assumes nothing.
-use Prim.Native.Nat.{ℕ, _≤_}
-use mathlib.Core.Path.{_≡_, _∙_}
+-- `control::write_register` meets its contract: the arms are the cases of `written`. In the last of them the latch's byte of the register is the value that was
+-- stored in it. Assumes nothing.
+use Prim.Native.Nat.{ℕ, zero, suc, _≤_}
+use mathlib.Core.Path.{_≡_, refl, _∙_}
+use mathlib.Core.List.{List}
 use mathlib.Core.Logic.{_≢_}
 use native.Mathlib.Omega.{arith}
 use borrow.Author.Needs.{needs}
+use Rattle.rules.specs.Areas.{latchPlace}
+use Rattle.rules.specs.Board.{latch}
+use Rattle.rules.specs.Board8.{board8}
 use Rattle.rules.specs.Control.{written}
+use Rattle.control.specs.declared.Latch.{Latch}
+use Rattle.control.specs.Latches.{latchWith, latchByte}
 use Rattle.control.proofs.write_register.Statement.{statement}
 use Rattle.control.proofs.write_register.Tie as tie
 
--- The register that is left.
-is-5 : (r : ℕ) → r ≤ 5 → r ≢ 0 → r ≢ 1 → r ≢ 2 → r ≢ 3 → r ≢ 4 → r ≡ 5
-is-5 r h a b c d e = omega arith
+-- A register stored in the latch, and its byte from there in the state, is that register's store.
+stored-written : (s : List ℕ) (l : Latch) (v r : ℕ) → r ≤ 5 → r ≢ 3 → r ≢ 5 → board8 .put s (latch (latchPlace r)) (latchByte (latchWith l r v) r) ≡ written board8 r v s
+unfolding written
+stored-written s l v zero h a b = refl
+stored-written s l v (suc zero) h a b = refl
+stored-written s l v (suc (suc zero)) h a b = refl
+stored-written s l v (suc (suc (suc zero))) h a b = absurd (a refl)
+stored-written s l v (suc (suc (suc (suc zero)))) h a b = refl
+stored-written s l v (suc (suc (suc (suc (suc zero))))) h a b = absurd (b refl)
+stored-written s l v (suc (suc (suc (suc (suc (suc n)))))) h a b = absurd (omega arith)
 
 returns : tie.Need-returns
 unfolding written
-returns c = let m = c .before .before .before .before in
-    c .before .before .put .ensures ∙ rw (m .before .stored-in .ensures, m .match .keys1)
+returns c = let e = c .before .before in
+    rw (e .before .before .match .keys1) (e .commit-entry .ensures)
 
 returns-2 : tie.Need-returns-2
 unfolding written
-returns-2 c = let m = c .before .before .before .before in
-    c .before .before .put2 .ensures ∙ rw (m .before .stored-in .ensures, m .match .keys2)
+returns-2 c = let h = c .before .before in
+    rw (h .before .before .match .keys2) (h .commit-horizon .ensures)
 
 returns-3 : tie.Need-returns-3
-unfolding written
-returns-3 c = let m = c .before .before .before .before in
-    c .before .before .put3 .ensures ∙ rw (m .before .stored-in .ensures, m .match .keys3)
-
-returns-4 : tie.Need-returns-4
-unfolding written
-returns-4 c = rw (c .before .before .before .before .match .keys4) (c .before .before .commit-entry .ensures)
-
-returns-5 : tie.Need-returns-5
-unfolding written
-returns-5 c = let m = c .before .before .before .before in
-    c .before .before .put4 .ensures ∙ rw (m .before .stored-in .ensures, m .match .keys5)
-
-returns-6 : tie.Need-returns-6
-unfolding written
-returns-6 c = let m = c .before .before .before .before in
-    let n = m .match .rest in
-    let e = is-5 _ (m .before .before .before .before .before .pre) (n .0 .0 .0 .0 .1) (n .0 .0 .0 .1) (n .0 .0 .1) (n .0 .1) (n .1) in
-    rw e (c .before .before .commit-horizon .ensures)
+returns-3 c =
+    let p = c .before .before in
+    let b = p .before in
+    let l = b .before .before in
+    let s = l .before in
+    let m = s .before .before .before in
+    let a = m .before .before .args in
+    p .put .ensures
+    ∙ rw (l .latch-place .ensures, b .byte .ensures, s .stored-in .ensures) (stored-written (a .state .now) (s .before .read .result) (a .value) (a .register) (m .before .before .pre) (m .match .rest .0 .1) (m .match .rest .1))
 
 pub write-register-spec : {M : Type 1} → statement M
 write-register-spec =
@@ -54,16 +58,9 @@ write-register-spec =
     (λ c κs. search needs)
     (λ c κs. search needs)
     (λ c κs. search needs)
-    (λ c κs. search needs)
     (λ c. search needs)
     returns
     (λ c. search needs)
     returns-2
     (λ c. search needs)
-    returns-3
-    (λ c. search needs)
-    returns-4
-    (λ c. search needs)
-    returns-5
-    (λ c. search needs)
-    returns-6)
+    returns-3)
