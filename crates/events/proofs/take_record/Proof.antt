@@ -24,14 +24,16 @@ unfolding takeRecord
 returns-2 c =
     let control = c .before .before .before .before .before in
     let asked = control .before .before in
-    rw (← asked .before .refusal .ensures, asked .if1 .left, ← control .before .byte .ensures, control .match .keys1) (c .before .before .take-control .ensures _ _ _ _ _)
+    rw (← asked .before .refusal .ensures, asked .if1 .left, ← control .before .byte .ensures, control .match .keys1)
+    (c .before .before .take-control .ensures _ _ _ _ _)
 
 returns-3 : tie.Need-returns-3
 unfolding takeRecord
 returns-3 c =
     let arrival = c .before .before .before .before in
     let asked = arrival .before .before in
-    rw (← asked .before .refusal .ensures, asked .if1 .left, ← arrival .before .byte .ensures, arrival .match .keys2) (c .before .before .take-arrival .ensures _ _)
+    rw (← asked .before .refusal .ensures, asked .if1 .left, ← arrival .before .byte .ensures, arrival .match .keys2)
+    (c .before .before .take-arrival .ensures _ _)
 
 returns-4 : tie.Need-returns-4
 unfolding takeRecord
@@ -40,7 +42,8 @@ returns-4 c =
     let tick = took .before .before .before .before .before .before in
     let asked = tick .before .before in
     let other = tick .match .rest in
-    rw (← asked .before .refusal .ensures, asked .if1 .left, ← tick .before .byte .ensures, ne-eqb _ _ (other .0 .1), ne-eqb _ _ (other .1)) (took .take-tick .ensures _)
+    rw (← asked .before .refusal .ensures, asked .if1 .left, ← tick .before .byte .ensures, ne-eqb _ _ (other .0 .1), ne-eqb _ _ (other .1))
+    (took .take-tick .ensures _)
 
 pub take-record-spec : {M : Type 1} → statement M
 take-record-spec =

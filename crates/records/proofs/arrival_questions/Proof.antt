@@ -13,21 +13,23 @@ returns-2 : tie.Need-returns-2
 unfolding arrivalRefusal
 returns-2 c = let blank = c .before .before in
     let asked = blank .before .is-blank in
-    rw (← asked .ensures, not-false (asked .result) (blank .if1 .left), lt-leb _ _ (c .if2 .taken))
+    rw (← asked .ensures, not-false (asked .result) (blank .if1 .left), lt-leb _ 4 (c .if2 .taken))
 
 returns-3 : tie.Need-returns-3
 unfolding arrivalRefusal
 returns-3 c = let h = c .before in
     let blank = h .before .before .before in
     let asked = blank .before .is-blank in
-    rw (← asked .ensures, not-false (asked .result) (blank .if1 .left), le-leb _ _ (h .before .if2 .left), ← h .has-port .ensures, c .if3 .taken)
+    rw (← asked .ensures, not-false (asked .result) (blank .if1 .left))
+    (rw (le-leb _ 4 (h .before .if2 .left), ← h .has-port .ensures, c .if3 .taken))
 
 returns-4 : tie.Need-returns-4
 unfolding arrivalRefusal
 returns-4 c = let h = c .before in
     let blank = h .before .before .before in
     let asked = blank .before .is-blank in
-    rw (← asked .ensures, not-false (asked .result) (blank .if1 .left), le-leb _ _ (h .before .if2 .left), ← h .has-port .ensures, c .if3 .left)
+    rw (← asked .ensures, not-false (asked .result) (blank .if1 .left))
+    (rw (le-leb _ 4 (h .before .if2 .left), ← h .has-port .ensures, c .if3 .left))
 
 pub arrival-questions-spec : {M : Type 1} → statement M
 arrival-questions-spec =
