@@ -1,11 +1,11 @@
 -- A packet accepted in the tick of its deadline is sent or withdrawn in it. By demand 3 it is, on each port of its mask, sent, withdrawn or left, once in the run; nothing is left after its deadline,
 -- and a tick that sends or withdraws it has the clock of its arrival, which one tick of a run has. Assumes nothing.
-use Prim.Native.Nat.{ℕ, _+_, _<_}
+use Prim.Native.Nat.{ℕ, _+_}
 use mathlib.Core.Path.{_≡_, refl, sym, ap, subst, _∙_}
 use mathlib.Core.Bool.{Bool, true, false}
 use mathlib.Core.List.{List, [], _∷_, _++_, List·Memᴰ, List·Memᴰ·head, List·Memᴰ·tail, Memᴰ·append-left, Memᴰ·append-right}
-use mathlib.Core.Logic.{_≢_}
-use native.Mathlib.Decide.{decLt}
+use mathlib.Core.Logic.{_≢_, ⊎-elim}
+use native.Mathlib.Nat.{eq-zero-or-pos}
 use native.Mathlib.Omega.{arith}
 use lib.Dec.{T}
 use lib.IntN.{ℤ, sucℤ}
@@ -54,24 +54,20 @@ module _ (p : ℕ) (x : Packet) where
 -- A tick at another clock does nothing with a packet whose deadline is the clock of its arrival.
 idle-else : (e : NotedTick) (p : ℕ) (x : Packet) → Permitted 1 e p x → x .deadline ≡ x .arrived → e .met .clock ≢ x .arrived → does p x e ≡ 0
 unfolding counted
-idle-else e p x L q n = go (isSent x (e .report .grant p)) refl (decLt 0 (times x (e .report .withdrawn p)))
+idle-else e p x L q n = go (isSent x (e .report .grant p)) refl
   where
-    go : (s : Bool) → isSent x (e .report .grant p) ≡ s → Dec (0 < times x (e .report .withdrawn p)) → counted s + times x (e .report .withdrawn p) ≡ 0
-    go true s w =
+    go : (s : Bool) → isSent x (e .report .grant p) ≡ s → counted s + times x (e .report .withdrawn p) ≡ 0
+    go true s =
         let (a, b, c, k) = L .sent s in
         absurd (n (antisym (e .met .clock) (x .arrived) (subst (λ (z : ℤ). T (leZ (e .met .clock) z)) q (c .le)) (a .le)))
-    go false s (yes w) = absurd (n (L .withdrawn w .1 ∙ q))
-    go false s (no w) = omega arith
+    go false s = ⊎-elim (λ z. omega arith) (λ w. absurd (n (L .withdrawn w .1 ∙ q))) (eq-zero-or-pos (times x (e .report .withdrawn p)))
 
 -- ---- the claim
 
 -- Once the clock has passed its deadline, nothing is left of a packet.
 none-left : {h : List NotedTick} {w : Router} {p : ℕ} {x : Packet} → Account 1 h w x p → T (leZ (sucℤ (x .deadline)) (w .clock)) → leftOn p x (w .place) ≡ 0
-none-left {w = w} {p = p} {x = x} C l = go (decLt 0 (leftOn p x (w .place)))
-  where
-    go : Dec (0 < leftOn p x (w .place)) → leftOn p x (w .place) ≡ 0
-    go (yes n) = let k = C .in-time n .le in absurd (omega (arith, orders, suc-nat (x .deadline)))
-    go (no n) = omega arith
+none-left {w = w} {p = p} {x = x} C l =
+    ⊎-elim (λ z. z) (λ n. let k = C .in-time n .le in absurd (omega (arith, orders, suc-nat (x .deadline)))) (eq-zero-or-pos (leftOn p x (w .place)))
 
 pub no-third : NoThird
 unfolding NoThird

@@ -107,12 +107,6 @@ pub all-meet : (rs : List Row) → runnable rs ≡ true → map by-router rs ≡
 unfolding runnable AllMeet
 all-meet [] e b w = tt
 all-meet (r ∷ rs) e b w =
-    let k = lent (r .tick) in
-    let proper-list = isProper 1 (start (r .from)) (r .earlier ++ (k ∷ [])) in
-    let accepted = eqb (refusal 1 (beforeWhole r) k) 0 in
-    let e₁ = and-right (ltb (r .from) 256) (proper-list && (accepted && runnable rs)) e in
-    let e₂ = and-right proper-list (accepted && runnable rs) e₁ in
-    let h = ltb-true (r .from) 256 (and-left (ltb (r .from) 256) (proper-list && (accepted && runnable rs)) e) in
-    let P = proper 1 (r .earlier ++ (k ∷ [])) (start (r .from)) (and-left proper-list (accepted && runnable rs) e₁) in
-    let a = eqb-true (refusal 1 (beforeWhole r) k) 0 (and-left accepted (runnable rs) e₂) in
-    (record { bytes = bytes-seen r h P a ∙ cons-first b; whole = cons-first w; proper = P }, all-meet rs (and-right accepted (runnable rs) e₂) (cons-rest b) (cons-rest w))
+    let P = proper 1 (r .earlier ++ (lent (r .tick) ∷ [])) (start (r .from)) (search (and-left, and-right)) in
+    let seen = bytes-seen r (search (ltb-true, and-left)) P (search (eqb-true, and-left, and-right)) in
+    (record { bytes = seen ∙ cons-first b; whole = cons-first w; proper = P }, all-meet rs (search and-right) (cons-rest b) (cons-rest w))

@@ -23,14 +23,9 @@ gives t h ks rs n m p w s e =
 
 -- ---- the runs, by computation
 
-turning : Gives 254 S.turning S.turningReplies 255
-unfolding computing S.turning S.turningReplies
-turning = gives 254 (omega arith) S.turning S.turningReplies 255 1 refl refl refl refl
-
-below-zero : Gives 2 S.belowZero S.belowZeroReplies 256
-unfolding computing S.belowZero S.belowZeroReplies
-below-zero = gives 2 (omega arith) S.belowZero S.belowZeroReplies 256 0 refl refl refl refl
-
 pub runs : Runs
-unfolding Runs
-runs = (turning, below-zero)
+unfolding Runs computing S.turning S.turningReplies S.belowZero S.belowZeroReplies
+runs = (
+  gives 254 (omega arith) S.turning S.turningReplies 255 1 refl refl refl refl,
+  gives 2 (omega arith) S.belowZero S.belowZeroReplies 256 0 refl refl refl refl,
+)

@@ -1,4 +1,4 @@
--- What a record comes to, by the answers on the way to it; a tick whatever its outgoing and answers areas held; the beginning. Assumes nothing.
+-- A tick whatever its outgoing and answers areas held; the beginning. Assumes nothing.
 use Prim.Native.Nat.{ℕ}
 use mathlib.Core.Path.{_≡_, refl, ap}
 use mathlib.Core.Bool.{Bool, true, false, cond}
@@ -11,15 +11,7 @@ use Rattle.rules.specs.Areas.{Store, numberReply, memoryLength, arrivalsLength,
 use Rattle.rules.specs.Board.{board8}
 use Rattle.rules.specs.Tick as Tick
 use Rattle.rules.specs.Questions.{full, fresh, makeFresh, tick, tickRefusal}
-use Rattle.records.specs.Records.{controlKind, arrivalKind, recordRefusal}
-use Rattle.events.specs.Tape.{Tape, start, refused, Taken, takeControl, takeArrival, afterTick, takeTick, takeRecord}
-
--- The k-th record, by its number and kind; what isn't asked yet stays as it is.
-pub record-taken : (σ : Tape) (k : ℕ) (r : List ℕ) {n kind : ℕ} → n ≡ recordRefusal (σ .pending) r → kind ≡ byte r 0
-    → (o : Taken) {q c a : Bool} → q ≡ eqb n 0 → c ≡ eqb kind controlKind → a ≡ eqb kind arrivalKind
-    → o ≡ cond q (cond c (takeControl σ k r) (cond a (takeArrival σ k r) (takeTick σ k r))) (record { tape = σ; event = refused k n }) → o ≡ takeRecord σ k r
-unfolding takeRecord
-record-taken σ k r en ek o eq ec ea h = rw (← en, ← ek, ← eq, ← ec, ← ea) h
+use Rattle.events.specs.Tape.{Tape, start, afterTick, takeTick}
 
 -- A tick's number, and so what the tape makes of its outcome, doesn't depend on what outgoing and answers hold.
 module _ (σ : Tape) (k : ℕ) (r out ans : List ℕ) (lo : length out ≡ outgoingLength) (la : length ans ≡ answersLength) where

@@ -153,16 +153,18 @@ pub fn take_record(
         };
     }
     let kind = layout::byte(bytes, 0);
-    if kind == records::CONTROL {
-        let event = take_control(state, memory, bytes);
-        return Taken { pending, event };
+    match kind {
+        records::CONTROL => {
+            let event = take_control(state, memory, bytes);
+            Taken { pending, event }
+        }
+        records::ARRIVAL => {
+            let pending = take_arrival(arrivals, pending, number, bytes);
+            Taken {
+                pending,
+                event: Event::Nothing,
+            }
+        }
+        _ => take_tick(state, memory, arrivals, pending, bytes, outgoing, answers),
     }
-    if kind == records::ARRIVAL {
-        let pending = take_arrival(arrivals, pending, number, bytes);
-        return Taken {
-            pending,
-            event: Event::Nothing,
-        };
-    }
-    take_tick(state, memory, arrivals, pending, bytes, outgoing, answers)
 }

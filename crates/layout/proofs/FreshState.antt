@@ -1,6 +1,6 @@
 -- The fresh state store by store: the stack's entries over zero bytes, computed. Assumes nothing.
 use Prim.Native.Nat.{ℕ, zero, suc, _+_, _-_}
-use mathlib.Core.Path.{_≡_, refl, sym, ap, _∙_}
+use mathlib.Core.Path.{_≡_, sym, ap}
 use mathlib.Core.List.{List, _∷_}
 use native.Mathlib.Omega.{arith}
 use lib.ListN.{set, replicate}
@@ -20,9 +20,6 @@ module _ (t : ℕ) where
   fresh-cons = ap (λ (x : ℕ). x ∷ fresh8) (omega arith)
 
   -- Computed: what the stores make of zero bytes.
-  stores : stacked 256 (set (set (replicate 1804 0) 0 t) 10 1) ≡ t ∷ fresh8
-  unfolding stacked fresh8 topFirst
-  stores = refl
-
   pub stacked-fresh : stacked 256 (set (set (replicate 1804 0) 0 t) 10 1) ≡ board8 .freshState t
-  stacked-fresh = stores ∙ sym fresh-cons
+  unfolding stacked fresh8 topFirst
+  stacked-fresh = sym fresh-cons

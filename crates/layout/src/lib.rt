@@ -1,6 +1,6 @@
 // The layout of what the router is lent: its sizes, the numbers of refusals, the fields of the state, a port's bit, and a copy.
 ghost use mathlib.Core.Path.{_≡_};
-ghost use Prim.Native.Nat.{_+_, _≤_, _<_};
+ghost use Prim.Native.Nat.{_+_, _*_, _≤_, _<_};
 ghost use lib.ListN.{length, getD, set, replicate};
 ghost use lib.Seq.{sets};
 ghost use Rattle.rules.specs.Areas.{has};
@@ -112,6 +112,14 @@ pub enum Field {
     Routes(ConnectionId),
 }
 
+// Every third place from a first one on.
+fn third(first: usize, i: u8) -> usize
+    requires { ⌜ first ≤ 1038 ⌝ }
+    ensures { λ r. ⌜ r ≡ first + 3 * i ⌝ }
+{
+    first + 3 * (i as usize)
+}
+
 fn place(f: Field) -> usize
     ensures { λ r. ⌜ r ≡ table8 (fieldOf f) .0 ⌝ }
 {
@@ -120,12 +128,12 @@ fn place(f: Field) -> usize
         Field::Horizon(p) => 1 + p as usize,
         Field::Latch(r) => 6 + r as usize,
         Field::Idle(i) => 12 + i as usize,
-        Field::Time(s) => 268 + 3 * (s.0 as usize),
-        Field::Deadline(s) => 269 + 3 * (s.0 as usize),
-        Field::Mask(s) => 270 + 3 * (s.0 as usize),
-        Field::Outgoing(c) => 1036 + 3 * (c.0 as usize),
-        Field::Delay(c) => 1037 + 3 * (c.0 as usize),
-        Field::Routes(c) => 1038 + 3 * (c.0 as usize),
+        Field::Time(s) => third(268, s.0),
+        Field::Deadline(s) => third(269, s.0),
+        Field::Mask(s) => third(270, s.0),
+        Field::Outgoing(c) => third(1036, c.0),
+        Field::Delay(c) => third(1037, c.0),
+        Field::Routes(c) => third(1038, c.0),
     }
 }
 
@@ -178,11 +186,17 @@ pub fn put(state: &mut [u8], f: Field, b: u8)
     put_byte(state, place(f), b);
 }
 
+fn wide(b: u8) -> u16
+    ensures { λ r. ⌜ (r ≡ b) × (r < 256) ⌝ }
+{
+    b as u16
+}
+
 pub fn free_count(state: &[u8]) -> u16
     requires { ⌜ length (now state) ≡ board8 .stateLength ⌝ }
     ensures { λ r. ⌜ r ≡ board8 .get (now (state .entry)) free ⌝ }
 {
-    (state[10] as u16) * 256 + state[11] as u16
+    wide(state[10]) * 256 + wide(state[11])
 }
 
 pub fn put_free(state: &mut [u8], n: u16)

@@ -1,4 +1,4 @@
--- Blank bytes one after the other, a record's number by the answers on the way to it, and what is known of an accepted one. Assumes nothing.
+-- Blank bytes one after the other, and what is known of an accepted record. Assumes nothing.
 use Prim.Native.Nat.{ℕ, suc, _-_, _≤_, _<_}
 use mathlib.Core.Path.{_≡_, refl}
 use mathlib.Core.Bool.{Bool, true, false, cond, _&&_}
@@ -10,7 +10,7 @@ use lib.Dec.{leb, eqb}
 use borrow.Author.Tests.{eqb-true, leb-true}
 use Rattle.rules.specs.Areas.{byte, has}
 use Rattle.rules.proofs.Booleans.{and-right}
-use Rattle.records.specs.Records.{recordLength, controlKind, arrivalKind, tickKind, blank, blankPart, unusedRefusal, arrivalRefusal, kindRefusal, recordRefusal}
+use Rattle.records.specs.Records.{recordLength, arrivalKind, blank, blankPart, arrivalRefusal, kindRefusal, recordRefusal}
 
 -- The part between two places is blank: where it is empty, and by its first byte.
 module _ (r : List ℕ) (i to : ℕ) where
@@ -24,19 +24,6 @@ module _ (r : List ℕ) (i to : ℕ) where
       let e : to - i ≡ suc (to - suc i) = omega arith in
       let k : i < length r = omega arith in
       rw (e, drop-cons r i 0 k)
-
--- An arrival's number, by the answers so far; what isn't asked yet stays as it is.
-pub arrival-number : (pending : ℕ) (r : List ℕ) (n : ℕ) {b p w : Bool} → b ≡ blankPart r 2 4 → p ≡ leb (byte r 1) 4 → w ≡ has pending (byte r 1)
-    → n ≡ cond (b && p) (cond w 12 0) 11 → n ≡ arrivalRefusal pending r
-unfolding arrivalRefusal
-arrival-number pending r n eb ep ew e = rw (← eb, ← ep, ← ew) e
-
--- A record's number, by its length and kind; what isn't asked yet stays as it is.
-pub record-number : (pending : ℕ) (r : List ℕ) (n : ℕ) {w c a t : Bool}
-    → w ≡ eqb (length r) recordLength → c ≡ eqb (byte r 0) controlKind → a ≡ eqb (byte r 0) arrivalKind → t ≡ eqb (byte r 0) tickKind
-    → n ≡ cond w (cond c (unusedRefusal r 3) (cond a (arrivalRefusal pending r) (cond t (unusedRefusal r 2) 10))) 9 → n ≡ recordRefusal pending r
-unfolding recordRefusal kindRefusal
-record-number pending r n ew ec ea et e = rw (← ew, ← ec, ← ea, ← et) e
 
 -- An answer of 0 was reached by a yes, or by a no.
 answered-yes : (b : Bool) (m n : ℕ) → cond b m (suc n) ≡ 0 → (b ≡ true) × (m ≡ 0)
@@ -60,4 +47,4 @@ module _ (pending : ℕ) (r : List ℕ) (accepted : recordRefusal pending r ≡ 
   unfolding kindRefusal arrivalRefusal
   accepted-port e =
       let used = answered-yes (blankPart r 2 4 && leb (byte r 1) 4) (cond (has pending (byte r 1)) 12 0) 10 (rw e at (whole-and-kind .1)) in
-      (leb-true (byte r 1) 4 (and-right (blankPart r 2 4) (leb (byte r 1) 4) (used .0)), answered-no (has pending (byte r 1)) 11 (used .1))
+      (search (leb-true, and-right), answered-no (has pending (byte r 1)) 11 (used .1))

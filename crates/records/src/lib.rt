@@ -100,16 +100,12 @@ pub fn questions(pending: u8, bytes: &[u8]) -> Answer
         return Answer::Short;
     }
     let kind = bytes[0];
-    if kind == CONTROL {
-        return unused_questions(bytes, 3);
+    match kind {
+        CONTROL => unused_questions(bytes, 3),
+        ARRIVAL => arrival_questions(pending, bytes),
+        TICK => unused_questions(bytes, 2),
+        _ => Answer::UnknownKind,
     }
-    if kind == ARRIVAL {
-        return arrival_questions(pending, bytes);
-    }
-    if kind == TICK {
-        return unused_questions(bytes, 2);
-    }
-    Answer::UnknownKind
 }
 
 // The number of a record's refusal by questions 9 to 12, 0 for none.

@@ -5,17 +5,11 @@ use mathlib.Core.List.{List, [], _∷_, _++_, append-nil, append-assoc, flatten}
 use native.Mathlib.Omega.{arith}
 use lib.ListN.{length, length-append}
 use Rattle.records.specs.Records.{recordLength, recordsIn}
-use Rattle.events.specs.Tape.{Tape, after, eventsOf}
+use Rattle.events.specs.Tape.{after, eventsOf}
 use Rattle.events.proofs.Joined.{after-joined}
 use Rattle.tapes.specs.Printed.{linesOf, printed}
-use Rattle.tapes.specs.Blocks.{Place, begin, Turned, turned, looped, Whole, BlocksPrintTheTape, Reached}
+use Rattle.tapes.specs.Blocks.{Place, begin, turned, looped, Whole, BlocksPrintTheTape, Reached}
 use Rattle.tapes.proofs.Lines.{lines-append}
-
--- A block whose records have all been taken.
-pub turned-all : (p : Place) (b : List ℕ) (i : ℕ) → i ≡ recordsIn b → (τ : Tape) (l : List ℕ) → τ ≡ after (p .tape) (p .number) b i .tape → l ≡ linesOf (after (p .tape) (p .number) b i .events)
-    → _≡_ {A = Turned} (record { place = record { tape = τ; number = p .number + recordsIn b }; lines = l }) (turned p b)
-unfolding turned
-turned-all p b i e τ l et el = rw (← e, ← et, ← el)
 
 -- ---- blocks
 

@@ -1,25 +1,17 @@
 -- `control::commit_horizon` meets its contract. The loop's invariant: the state has the horizon for the ports of the mask below `port`. The measure
 -- is what is left of five. Assumes nothing.
-use Prim.Native.Nat.{ℕ, _+_, _-_, _≤_}
-use mathlib.Core.Bool.{Bool, cond}
-use mathlib.Core.List.{List}
+use Prim.Native.Nat.{_-_, _≤_}
 use mathlib.Core.Logic.{⊎-elim}
 use mathlib.Core.Path.{_≡_, refl, sym, ap, _∙_}
 use native.Mathlib.Numerals.{add-one}
 use native.Mathlib.Omega.{arith}
 use lib.ListN.{length}
-use Rattle.rules.specs.Areas.{has}
-use Rattle.rules.specs.Board.{Horizon, board8}
+use Rattle.rules.specs.Board.{board8}
 use Rattle.rules.specs.Questions.{commitHorizon}
 use Rattle.control.specs.declared.Latch.{Latch}
 use borrow.Author.Needs.{needs}
 use Rattle.control.proofs.commit_horizon.Statement.{statement}
 use Rattle.control.proofs.commit_horizon.Tie as tie
-
--- One port more.
-next : (s₀ s : List ℕ) (m h p : ℕ) {s′ : List ℕ} {b : Bool} → s ≡ commitHorizon board8 p m h s₀ → has m p ≡ b → s′ ≡ cond b (board8 .put s (Horizon, p) h) s → s′ ≡ commitHorizon board8 (p + 1) m h s₀
-unfolding commitHorizon
-next s₀ s m h p e f g = g ∙ rw (add-one p, f, e)
 
 abbrev Inv-loop : tie.InvT-loop
 Inv-loop state₀ horizon mask port₀ state port = (port ≤ 5) × (length state ≡ length state₀) × (state ≡ commitHorizon board8 port mask horizon state₀)
@@ -32,12 +24,13 @@ unfolding commitHorizon
 loop-holds c = (search needs, refl, refl)
 
 loop-again : tie.Need-loop-again Inv-loop μ-loop
+unfolding commitHorizon
 loop-again c =
     let l = c .before .before .before .loop in
     let is = c .before .has-port .ensures in
     ⊎-elim
-    (λ w. (search needs, search needs, next _ _ _ _ (l .port) (l .inv .2) (sym is ∙ w .0 .taken) (cc)))
-    (λ w. (search needs, search needs, next _ _ _ _ (l .port) (l .inv .2) (sym is ∙ w .0 .left) (cc)))
+    (λ w. (search needs, search needs, rw (add-one (l .port), ← l .inv .2, sym is ∙ w .0 .taken) (cc)))
+    (λ w. (search needs, search needs, rw (add-one (l .port), ← l .inv .2, sym is ∙ w .0 .left) (cc)))
     (c .if1 .came)
 
 returns : tie.Need-returns Inv-loop μ-loop

@@ -1,48 +1,49 @@
--- `take_record` meets its contract: each return has the answers that led there (`record-taken` of Taking). Assumes nothing.
-use mathlib.Core.Path.{refl, sym, _∙_}
+-- `take_record` meets its contract: each return has the answers that led there, and is a case of `takeRecord`. Assumes nothing.
+use mathlib.Core.Path.{sym, _∙_}
 use borrow.Author.Needs.{needs}
-use borrow.Author.Tests.{eq-eqb, ne-eqb}
+use borrow.Author.Tests.{ne-eqb}
 use Rattle.records.proofs.Refusals.{accepted-length, accepted-port}
-use Rattle.events.proofs.Taking.{record-taken}
+use Rattle.events.specs.Tape.{takeRecord}
 use Rattle.events.proofs.take_record.Statement.{statement}
 use Rattle.events.proofs.take_record.Tie as tie
 
 returns : tie.Need-returns
-returns c = record-taken _ _ _ (c .before .refusal .ensures) refl _ (sym (ne-eqb _ _ (c .if1 .taken))) refl refl refl
-
-returns-2 : tie.Need-returns-2
-returns-2 c =
-    let control = c .before .before .before .before .before in
-    let kind = control .before in
-    let asked = kind .before in
-    record-taken _ _ _ (asked .before .refusal .ensures) (kind .byte .ensures) _ (sym (eq-eqb _ _ (asked .if1 .left)))
-    (sym (eq-eqb _ _ (control .if2 .taken))) refl (c .before .before .take-control .ensures _ _ _ _ _)
+unfolding takeRecord
+returns c = rw (← c .before .refusal .ensures, ne-eqb _ _ (c .if1 .taken))
 
 take-arrival-requires : tie.Need-take-arrival-requires
 take-arrival-requires c κs =
-    let arrival = c .before in
-    let kind = arrival .before .before in
+    let kind = c .before .before in
     let asked = kind .before in
     let accepted = sym (asked .before .refusal .ensures) ∙ asked .if1 .left in
-    let free = accepted-port _ _ accepted (sym (kind .byte .ensures) ∙ arrival .if3 .taken) in
+    let free = accepted-port _ _ accepted (sym (kind .byte .ensures) ∙ c .before .match .keys2) in
     (search needs, accepted-length _ _ accepted, free .0, free .1)
 
+returns-2 : tie.Need-returns-2
+unfolding takeRecord
+returns-2 c =
+    let control = c .before .before .before .before .before in
+    let asked = control .before .before in
+    rw (← asked .before .refusal .ensures, asked .if1 .left, ← control .before .byte .ensures, control .match .keys1)
+    (c .before .before .take-control .ensures _ _ _ _ _)
+
 returns-3 : tie.Need-returns-3
+unfolding takeRecord
 returns-3 c =
     let arrival = c .before .before .before .before in
-    let kind = arrival .before .before in
-    let asked = kind .before in
-    record-taken _ _ _ (asked .before .refusal .ensures) (kind .byte .ensures) _ (sym (eq-eqb _ _ (asked .if1 .left)))
-    (sym (ne-eqb _ _ (arrival .before .if2 .left))) (sym (eq-eqb _ _ (arrival .if3 .taken))) (c .before .before .take-arrival .ensures _ _)
+    let asked = arrival .before .before in
+    rw (← asked .before .refusal .ensures, asked .if1 .left, ← arrival .before .byte .ensures, arrival .match .keys2)
+    (c .before .before .take-arrival .ensures _ _)
 
 returns-4 : tie.Need-returns-4
+unfolding takeRecord
 returns-4 c =
     let took = c .before .before .before .before .before .before .before .before in
-    let arrival = took .before .before .before .before .before .before in
-    let kind = arrival .before .before in
-    let asked = kind .before in
-    record-taken _ _ _ (asked .before .refusal .ensures) (kind .byte .ensures) _ (sym (eq-eqb _ _ (asked .if1 .left)))
-    (sym (ne-eqb _ _ (arrival .before .if2 .left))) (sym (ne-eqb _ _ (arrival .if3 .left))) (took .take-tick .ensures _)
+    let tick = took .before .before .before .before .before .before in
+    let asked = tick .before .before in
+    let other = tick .match .rest in
+    rw (← asked .before .refusal .ensures, asked .if1 .left, ← tick .before .byte .ensures, ne-eqb _ _ (other .0 .1), ne-eqb _ _ (other .1))
+    (took .take-tick .ensures _)
 
 pub take-record-spec : {M : Type 1} → statement M
 take-record-spec =
@@ -52,13 +53,13 @@ take-record-spec =
     returns
     (λ c κs. search needs)
     (λ c κs. search needs)
+    take-arrival-requires
+    (λ c κs. search needs)
     (λ c. search needs)
     (λ c. search needs)
     returns-2
-    take-arrival-requires
     (λ c. search needs)
     returns-3
-    (λ c κs. search needs)
     (λ c. search needs)
     (λ c. search needs)
     (λ c. search needs)

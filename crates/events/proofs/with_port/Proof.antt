@@ -5,9 +5,6 @@ use Rattle.events.proofs.Masks.{room-for-port}
 use Rattle.events.proofs.with_port.Statement.{statement}
 use Rattle.events.proofs.with_port.Tie as tie
 
-shl-result : tie.Need-shl-result
-shl-result c = search needs
-
 add-result : tie.Need-add-result
 add-result c = omega (arith, room-for-port (c .args .mask) (c .args .port) (search needs) (c .pre .0) (c .pre .1) .0)
 
@@ -15,4 +12,4 @@ returns : tie.Need-returns
 returns c = rw (room-for-port (c .args .mask) (c .args .port) (search needs) (c .pre .0) (c .pre .1) .1)
 
 pub with-port-spec : {M : Type 1} → statement M
-with-port-spec = tie.close (tie.spec shl-result add-result returns)
+with-port-spec = tie.close (tie.spec (λ c. search needs) add-result returns)

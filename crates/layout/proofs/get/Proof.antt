@@ -7,15 +7,9 @@ use borrow.Author.Needs.{needs}
 use Rattle.layout.proofs.get.Statement.{statement}
 use Rattle.layout.proofs.get.Tie as tie
 
-place-requires : tie.Need-place-requires
-place-requires c κs = search needs
-
-byte-requires : tie.Need-byte-requires
-byte-requires c κs = search needs
-
 returns : tie.Need-returns
 returns c = let a = c .before .before .before .args in
     rw (get-one table8 (a .state .now) (fieldOf (a .f)) (one-byte (a .f)), ← c .before .place .ensures) (c .byte .ensures)
 
 pub get-spec : {M : Type 1} → statement M
-get-spec = tie.close (tie.spec place-requires byte-requires returns)
+get-spec = tie.close (tie.spec (λ c κs. search needs) (λ c κs. search needs) returns)

@@ -4,12 +4,9 @@ use borrow.Author.Needs.{needs}
 use Rattle.layout.proofs.has_port.Statement.{statement}
 use Rattle.layout.proofs.has_port.Tie as tie
 
-shr-result : tie.Need-shr-result
-shr-result c = search needs
-
 returns : tie.Need-returns
 unfolding has
 returns c = search needs
 
 pub has-port-spec : {M : Type 1} → statement M
-has-port-spec = tie.close (tie.spec shr-result returns)
+has-port-spec = tie.close (tie.spec (λ c. search needs) returns)

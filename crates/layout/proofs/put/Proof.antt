@@ -7,19 +7,12 @@ use borrow.Author.Needs.{needs}
 use Rattle.layout.proofs.put.Statement.{statement}
 use Rattle.layout.proofs.put.Tie as tie
 
-place-requires : tie.Need-place-requires
-place-requires c κs = search needs
-
-put-byte-requires : tie.Need-put-byte-requires
-put-byte-requires c κs = search needs
-
-same-length : tie.Need-same-length
-same-length c = search needs
-
 returns : tie.Need-returns
 returns c = let p = c .before .before .before in
     let a = p .before .before .before .args in
     rw (put-one table8 (a .state .now) (fieldOf (a .f)) (one-byte (a .f)), ← p .place .ensures) (c .before .before .put-byte .ensures)
 
 pub put-spec : {M : Type 1} → statement M
-put-spec = tie.close (tie.spec place-requires put-byte-requires same-length returns)
+put-spec =
+    tie.close
+    (tie.spec (λ c κs. search needs) (λ c κs. search needs) (λ c. search needs) returns)

@@ -7,15 +7,9 @@ use borrow.Author.Needs.{needs}
 use Rattle.layout.proofs.read.Statement.{statement}
 use Rattle.layout.proofs.read.Tie as tie
 
-place-requires : tie.Need-place-requires
-place-requires c κs = search needs
-
-shared-slice-read-result : tie.Need-shared-slice-read-result
-shared-slice-read-result c = search needs
-
 returns : tie.Need-returns
 returns c = let a = c .before .before .before .args in
     rw (get-one table8 (a .state .now) (fieldOf (a .f)) (one-byte (a .f)), ← c .before .place .ensures)
 
 pub read-spec : {M : Type 1} → statement M
-read-spec = tie.close (tie.spec place-requires shared-slice-read-result returns)
+read-spec = tie.close (tie.spec (λ c κs. search needs) (λ c. search needs) returns)

@@ -16,9 +16,6 @@ Inv-loop bytes from to i₀ i = blankPart bytes from to ≡ blankPart bytes i to
 abbrev μ-loop : tie.MeasureT-loop
 μ-loop bytes from to i₀ i = to - i
 
-loop-holds : tie.Need-loop-holds Inv-loop μ-loop
-loop-holds c = refl
-
 returns : tie.Need-returns Inv-loop μ-loop
 returns c =
     let l = c .before .before .before .loop in
@@ -43,7 +40,7 @@ is-blank-spec =
     (tie.spec
     Inv-loop
     μ-loop
-    loop-holds
+    (λ c. refl)
     (λ c. search needs)
     returns
     (λ c. search needs)

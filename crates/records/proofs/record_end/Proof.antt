@@ -9,12 +9,6 @@ use Rattle.records.proofs.Parts.{take-to-end}
 use Rattle.records.proofs.record_end.Statement.{statement}
 use Rattle.records.proofs.record_end.Tie as tie
 
-sub-if1 : tie.Need-sub-if1
-sub-if1 c = search needs
-
-add-result : tie.Need-add-result
-add-result c = search needs
-
 returns : tie.Need-returns
 returns c =
     let e : c .before .args .start + 24 - c .before .args .start ≡ 24 = omega arith in
@@ -27,4 +21,4 @@ returns-2 c =
     (search needs, search needs, take-to-end b s ∙ sym (take-all 24 (drop s b) (rw (length-drop s b) (omega arith))))
 
 pub record-end-spec : {M : Type 1} → statement M
-record-end-spec = tie.close (tie.spec sub-if1 add-result returns returns-2)
+record-end-spec = tie.close (tie.spec (λ c. search needs) (λ c. search needs) returns returns-2)

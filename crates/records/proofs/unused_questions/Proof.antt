@@ -4,9 +4,6 @@ use Rattle.records.specs.Records.{unusedRefusal}
 use Rattle.records.proofs.unused_questions.Statement.{statement}
 use Rattle.records.proofs.unused_questions.Tie as tie
 
-is-blank-requires : tie.Need-is-blank-requires
-is-blank-requires c κs = search needs
-
 returns : tie.Need-returns
 unfolding unusedRefusal
 returns c = rw (← c .before .is-blank .ensures, c .if1 .taken)
@@ -16,4 +13,4 @@ unfolding unusedRefusal
 returns-2 c = rw (← c .before .is-blank .ensures, c .if1 .left)
 
 pub unused-questions-spec : {M : Type 1} → statement M
-unused-questions-spec = tie.close (tie.spec is-blank-requires returns returns-2)
+unused-questions-spec = tie.close (tie.spec (λ c κs. search needs) returns returns-2)

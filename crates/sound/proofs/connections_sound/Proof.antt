@@ -13,9 +13,6 @@ Inv-loop state i₀ i = Passed 256 (connectionSound board8 state) i
 abbrev μ-loop : tie.MeasureT-loop
 μ-loop state i₀ i = 256 - i
 
-loop-holds : tie.Need-loop-holds Inv-loop μ-loop
-loop-holds c = passed-none _ _
-
 returns : tie.Need-returns Inv-loop μ-loop
 returns c = let l = c .before .before .before .loop in fails-at _ _ (l .i) _ (c .before .connection-sound .ensures) (c .before .before .loop-test .taken) (c .if1 .taken)
 
@@ -31,7 +28,7 @@ connections-sound-spec =
     (tie.spec
     Inv-loop
     μ-loop
-    loop-holds
+    (λ c. passed-none _ _)
     (λ c. search needs)
     (λ c κs. search needs)
     returns

@@ -15,9 +15,6 @@ Inv-loop state p₀ p = Passed 5 (horizonSound board8 state) p
 abbrev μ-loop : tie.MeasureT-loop
 μ-loop state p₀ p = 5 - p
 
-loop-holds : tie.Need-loop-holds Inv-loop μ-loop
-loop-holds c = passed-none _ _
-
 returns : tie.Need-returns Inv-loop μ-loop
 returns c = let l = c .before .before .before .loop in fails-at _ _ (l .p) (ltb (c .before .read .result) 128) (rw (half-one, ← c .before .read .ensures)) (c .before .before .loop-test .taken) (c .if1 .taken)
 
@@ -33,7 +30,7 @@ horizons-sound-spec =
     (tie.spec
     Inv-loop
     μ-loop
-    loop-holds
+    (λ c. passed-none _ _)
     (λ c. search needs)
     (λ c κs. search needs)
     returns

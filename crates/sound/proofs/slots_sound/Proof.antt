@@ -14,9 +14,6 @@ Inv-loop state memory i₀ i = Passed 256 (slotSound board8 (store state memory)
 abbrev μ-loop : tie.MeasureT-loop
 μ-loop state memory i₀ i = 256 - i
 
-loop-holds : tie.Need-loop-holds Inv-loop μ-loop
-loop-holds c = passed-none _ _
-
 returns : tie.Need-returns Inv-loop μ-loop
 unfolding slotsSound
 returns c = let l = c .before .before .before .loop in fails-at _ _ (l .i) _ (c .before .slot-sound .ensures) (c .before .before .loop-test .taken) (c .if1 .taken)
@@ -34,7 +31,7 @@ slots-sound-spec =
     (tie.spec
     Inv-loop
     μ-loop
-    loop-holds
+    (λ c. passed-none _ _)
     (λ c. search needs)
     (λ c κs. search needs)
     returns

@@ -5,18 +5,11 @@ use borrow.Author.Needs.{needs}
 use Rattle.text.proofs.put_tick.Statement.{statement}
 use Rattle.text.proofs.put_tick.Tie as tie
 
-put-tick-text-requires : tie.Need-put-tick-text-requires
-put-tick-text-requires c κs = search needs
-
-put-char-requires : tie.Need-put-char-requires
-put-char-requires c κs = search needs
-
-same-length : tie.Need-same-length
-same-length c = search needs
-
 returns : tie.Need-returns
 unfolding tickLine
 returns c = (put-then (c .before .before .before .before .before .before .put-tick-text .ensures .0) (c .before .before .put-char .ensures), search needs)
 
 pub put-tick-spec : {M : Type 1} → statement M
-put-tick-spec = tie.close (tie.spec put-tick-text-requires put-char-requires same-length returns)
+put-tick-spec =
+    tie.close
+    (tie.spec (λ c κs. search needs) (λ c κs. search needs) (λ c. search needs) returns)

@@ -5,19 +5,10 @@ use Rattle.tapes.specs.Printed.{tickedLines}
 use Rattle.tapes.proofs.printing.put_ticked.Statement.{statement}
 use Rattle.tapes.proofs.printing.put_ticked.Tie as tie
 
-put-refused-arrivals-requires : tie.Need-put-refused-arrivals-requires
-put-refused-arrivals-requires c κs = search needs
-
-put-tick-requires : tie.Need-put-tick-requires
-put-tick-requires c κs = search needs
-
-same-length : tie.Need-same-length
-same-length c = search needs
-
 returns : tie.Need-returns
 unfolding tickedLines
 returns c = (put-then (c .before .before .before .before .before .before .put-refused-arrivals .ensures .0) (c .before .before .put-tick .ensures .0), search needs)
 
 pub put-ticked-spec : {M : Type 1} → statement M
 put-ticked-spec =
-    tie.close (tie.spec put-refused-arrivals-requires put-tick-requires same-length returns)
+    tie.close (tie.spec (λ c κs. search needs) (λ c κs. search needs) (λ c. search needs) returns)

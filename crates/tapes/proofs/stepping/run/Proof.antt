@@ -5,14 +5,14 @@ use mathlib.Core.Path.{_≡_, refl}
 use native.Mathlib.Omega.{arith}
 use lib.ListN.{length}
 use borrow.Author.Needs.{needs}
+use Rattle.records.specs.Records.{recordsIn}
 use Rattle.events.specs.Tape.{after}
 use Rattle.events.specs.Values.{tapeOf}
 use Rattle.text.specs.Put.{Put}
 use Rattle.text.proofs.Put.{put-nothing, take-put}
 use Rattle.tapes.specs.Printed.{linesOf}
-use Rattle.tapes.specs.Values.{placeOf}
+use Rattle.tapes.specs.Blocks.{turned}
 use Rattle.tapes.proofs.Lines.{tape-then, lines-then}
-use Rattle.tapes.proofs.Blocks.{turned-all}
 use Rattle.tapes.proofs.stepping.run.Statement.{statement}
 use Rattle.tapes.proofs.stepping.run.Tie as tie
 
@@ -38,12 +38,13 @@ loop-again c =
     (search needs, tape-then _ _ _ (l .i) _ (l .inv .1) _ (e .0), lines-then _ _ _ (l .i) _ (l .inv .1) (l .inv .2) (e .1 .0))
 
 returns : tie.Need-returns Inv-loop μ-loop
+unfolding turned
 returns c =
     let l = c .before .loop in
     let a = c .before .before .before .before .before .before .before .before .args in
-    let p = placeOf (a .state .now) (a .memory .now) (a .arrivals .now) (a .place) in
     let fits : l .at ≤ length (a .lines .now) = search needs in
-    (turned-all p (a .block .now) (l .i) (omega arith) _ _ (l .inv .1) (take-put (l .inv .2) fits), fits)
+    let all : l .i ≡ recordsIn (a .block .now) = omega arith in
+    (rw (← all, ← l .inv .1, take-put (l .inv .2) fits), fits)
 
 pub run-spec : {M : Type 1} → statement M
 run-spec =
