@@ -14,7 +14,7 @@ use Rattle.rules.specs.Order.{all}
 use Rattle.rules.specs.Areas.{byte, Bytes, bits, half, packet, stamp, has}
 use Rattle.rules.specs.Whole.{Router, TickCall}
 use Rattle.rules.specs.Calls.{Call, control, tick, wholeStep, ByteCall, TrueTime, TrueTimes, Proper}
-use Rattle.rules.proofs.Booleans.{is-true, and-left, and-right}
+use Rattle.rules.proofs.Booleans.{true→T, and-left, and-right}
 use Rattle.rules.proofs.IndexLaws.{all-at}
 
 unfoldable pub areBytes : List ℕ → Bool
@@ -55,7 +55,7 @@ module _ (c : ℕ) where
 
   true-time : (r : Router) (k : TickCall) (p : ℕ) → isTrueTime c r k p ≡ true → TrueTime c r k p
   unfolding isTrueTime
-  true-time r k p e = search (is-true, eqb-true, and-left, and-right)
+  true-time r k p e = search (true→T, eqb-true, and-left, and-right)
 
   true-times : (r : Router) (k : Call) → isProperCall c r k ≡ true → TrueTimes c r k
   unfolding isProperCall TrueTimes

@@ -60,7 +60,7 @@ module _ (B : Board) where
   -- ---- a packet placed
 
   -- Read by read and store by store.
-  pub placed-is : (r : Store) (k : List ℕ) {x d y m o n i : ℕ} {l s₁ s₂ s₃ s₄ : List ℕ}
+  pub stores-placed : (r : Store) (k : List ℕ) {x d y m o n i : ℕ} {l s₁ s₂ s₃ s₄ : List ℕ}
       → x ≡ stamp c k
       → d ≡ get (r .state) (Delay, byte k 0)
       → y ≡ plus (bits c) x d
@@ -75,7 +75,7 @@ module _ (B : Board) where
       → s₄ ≡ put s₃ (Mask, i) m
       → store s₄ l ≡ placed B r k
   unfolding placed
-  placed-is r k ex ed ey em eo en ei el e₁ e₂ e₃ e₄ = rw (e₄, e₃, e₂, e₁, el, ei, en, eo, em, ey, ed, ex)
+  stores-placed r k ex ed ey em eo en ei el e₁ e₂ e₃ e₄ = rw (e₄, e₃, e₂, e₁, el, ei, en, eo, em, ey, ed, ex)
 
   -- It leaves room: the stack has one address less, and the slots one packet more at the most.
   pub placed-leaves-room : (L : Laws B) (r : Store) (k : List ℕ) {n i : ℕ} {r′ : Store} → length (r .state) ≡ stateLength → 0 < get (r .state) free → n ≡ get (r .state) free → i ≡ get (r .state) (Idle, n - 1) → i < 256

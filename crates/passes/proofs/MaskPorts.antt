@@ -100,15 +100,15 @@ module _ (m : ℕ) (hm : m < 32) (n : m ≢ 0) where
   at : rule m lowest ≡ true
   at = rw (ne-eqb m 0 n) at (all-at (λ m. eqb m 0 || rule m (trailingZeros 8 m)) 32 m rules hm)
 
-  front : (ltb lowest 5 && has m lowest) ≡ true
+  lowest-there : (ltb lowest 5 && has m lowest) ≡ true
   unfolding rule
-  front = and-left (ltb lowest 5 && has m lowest) (eqb (bitAnd m (m - 1)) (without m lowest)) at
+  lowest-there = and-left (ltb lowest 5 && has m lowest) (eqb (bitAnd m (m - 1)) (without m lowest)) at
 
   pub lowest-port : lowest < 5
-  lowest-port = ltb-true lowest 5 (and-left (ltb lowest 5) (has m lowest) front)
+  lowest-port = ltb-true lowest 5 (and-left (ltb lowest 5) (has m lowest) lowest-there)
 
   has-lowest : has m lowest ≡ true
-  has-lowest = and-right (ltb lowest 5) (has m lowest) front
+  has-lowest = and-right (ltb lowest 5) (has m lowest) lowest-there
 
   without-lowest : bitAnd m (m - 1) ≡ without m lowest
   unfolding rule

@@ -14,8 +14,8 @@ module _ (B : Board) (r : Store) (i : ℕ) where
   open Board B using (clockBytes as c, get)
 
   -- From the mask m, time x, deadline y, clock t, d = y - x, v for the offset's bounds and the header h.
-  pub slot-sound-is : {m x y t d h : ℕ} {v w : Bool} → m ≡ get (r .state) (Mask, i) → x ≡ get (r .state) (Time, i) → y ≡ get (r .state) (Deadline, i) → t ≡ get (r .state) clock
+  pub tests-slot-sound : {m x y t d h : ℕ} {v w : Bool} → m ≡ get (r .state) (Mask, i) → x ≡ get (r .state) (Time, i) → y ≡ get (r .state) (Deadline, i) → t ≡ get (r .state) clock
       → d ≡ minus (bits c) y x → v ≡ (leZ (negℤ (pos d)) (offset (bits c) x t) && leZ (offset (bits c) x t) (pos (half c - 2))) → h ≡ stamp c (packet (r .memory) i)
       → w ≡ (eqb m 0 || (leb m 31 && ltb d (half c) && v && eqb h y)) → w ≡ slotSound B r i
   unfolding slotSound
-  slot-sound-is em ex ey et ed ev eh e = e ∙ rw (ev, eh, ed, em, ex, ey, et) (simp and-assoc)
+  tests-slot-sound em ex ey et ed ev eh e = e ∙ rw (ev, eh, ed, em, ex, ey, et) (simp and-assoc)

@@ -62,9 +62,9 @@ module _ (B : Board) (s : List ℕ) where
     })
 
   -- The test of the stack, by the free count n, whether its entries are different, and whether they are the empty slots.
-  pub stack-sound-is : (n : ℕ) (d l : Bool) → n ≡ get s free → d ≡ distinct (entries B s n) → l ≡ all 256 (listed B s) → (leb n 256 && (d && l)) ≡ stackSound B s
+  pub tests-stack-sound : (n : ℕ) (d l : Bool) → n ≡ get s free → d ≡ distinct (entries B s n) → l ≡ all 256 (listed B s) → (leb n 256 && (d && l)) ≡ stackSound B s
   unfolding stackSound stack
-  stack-sound-is n d l en ed el = rw (el, ed, en)
+  tests-stack-sound n d l en ed el = rw (el, ed, en)
 
 -- A sound stack has room for every slot that holds a packet.
 pub sound-has-room : (B : Board) (L : Laws B) (s : List ℕ) (n : ℕ) (seen : List Bool) (d : Bool) → n ≡ B .get s free → Marked B s n seen d → stackSound B s ≡ true → used B s ≤ 256

@@ -11,23 +11,23 @@ use Rattle.rules.specs.Areas.{asked}
 -- ---- a test and its proposition
 
 -- By the two cases, as all that follows.
-pub is-true : (t : Bool) → t ≡ true → T t
-is-true true e = tt
-is-true false e = absurd (true≢false (sym e))
+pub true→T : (t : Bool) → t ≡ true → T t
+true→T true e = tt
+true→T false e = absurd (true≢false (sym e))
 
-pub true-is : (t : Bool) → T t → t ≡ true
-true-is true h = refl
-true-is false h = absurd h
+pub T→true : (t : Bool) → T t → t ≡ true
+T→true true h = refl
+T→true false h = absurd h
 
 -- A test that can't hold fails.
-pub false-is : (t : Bool) → (T t → ⊥) → t ≡ false
-false-is true f = absurd (f tt)
-false-is false f = refl
+pub ¬T→false : (t : Bool) → (T t → ⊥) → t ≡ false
+¬T→false true f = absurd (f tt)
+¬T→false false f = refl
 
 -- Tests that say the same are equal.
 pub same-test : (s t : Bool) → (T s → T t) → (T t → T s) → s ≡ t
-same-test true t f g = sym (true-is t (f tt))
-same-test false t f g = sym (false-is t g)
+same-test true t f g = sym (T→true t (f tt))
+same-test false t f g = sym (¬T→false t g)
 
 -- ---- connectives
 

@@ -9,7 +9,7 @@ use Rattle.rules.specs.Areas.{bits, half}
 use Rattle.rules.specs.Clock.{cut, minus, offset}
 use Rattle.rules.specs.Order.{by, then, Key, onTimeFirst, comparator}
 use Rattle.rules.specs.Whole.{Packet, packetKey}
-use Rattle.rules.proofs.Booleans.{is-true}
+use Rattle.rules.proofs.Booleans.{true→T}
 use Rattle.rules.proofs.Integers.{diff-gt, diff-lt}
 use Rattle.rules.proofs.Offsets.{at-most}
 use Rattle.rules.proofs.Good.{InWindow}
@@ -35,8 +35,8 @@ module _ (c : ℕ) where
 
     -- Its key is the packet's less the clock.
     pub read-key : (e : Bool) → ltZ t (x .time) ≡ e → pos (minus (bits c) (cond e (cut (bits c) (x .time)) (cut (bits c) (x .deadline))) (cut (bits c) t)) ≡ keyOf e x -ℤ t
-    read-key true q = window-early c t x F (is-true (ltZ t (x .time)) q)
-    read-key false q = window-on-time c t x F (is-true (leZ (x .time) t) (at-most t (x .time) false q))
+    read-key true q = window-early c t x F (true→T (ltZ t (x .time)) q)
+    read-key false q = window-on-time c t x F (true→T (leZ (x .time) t) (at-most t (x .time) false q))
 
   -- Two packets go in the order of their whole-number keys.
   pub comparator-whole : (t : ℤ) (x y : Packet) → InWindow c t (half c) x → InWindow c t (half c) y → comparator ltb (readKey t x) (readKey t y) ≡ by (packetKey t) (comparator ltZ) x y

@@ -10,7 +10,7 @@ use lib.Signed.{leZ, ltZ}
 use Rattle.rules.specs.Areas.{has, Grant, nobody, bestEffort, onTime, early}
 use Rattle.rules.specs.Order.{least, Order, by, then, onTimeFirst, comparator}
 use Rattle.rules.specs.Whole.{Packet, Held, Router, toServe, packetKey, granted, grant}
-use Rattle.rules.proofs.Booleans.{some-inj, none-some, is-true, true-is}
+use Rattle.rules.proofs.Booleans.{some-inj, none-some, true→T, T→true}
 use Rattle.rules.proofs.IndexLaws.{least-in}
 use Rattle.rules.proofs.OrderLaws.{fails, strict-wholes, strict-by, strict-comparator, least-beats}
 use Rattle.rules.proofs.Integers.{orders, diff-nat, not-lt}
@@ -63,7 +63,7 @@ module _ (r : Router) (b p : ℕ) where
   unfolding grant granted
   grant-on-time i x l e h =
       let (j, y, q, n) = wins i x l e in
-      let on-time = fails (isEarly x) (λ k. let m = is-true (isEarly x) k in omega (arith, orders)) in
+      let on-time = fails (isEarly x) (λ k. let m = true→T (isEarly x) k in omega (arith, orders)) in
       let (z, d) = not-before x y false (isEarly y) on-time refl n in
       (j, y, rw (q, z), d)
 
@@ -85,7 +85,7 @@ module _ (r : Router) (b p : ℕ) where
   module _ (all-early : (i : ℕ) (x : Packet) → i < 256 → waiting i ≡ some x → T (isEarly x)) where
     -- The winner waits.
     winner-early : (j : ℕ) (y : Packet) → winner ≡ some (j, y) → isEarly y ≡ true
-    winner-early j y q = let (l, e) = least-in before waiting 256 j y q in true-is (isEarly y) (all-early j y l e)
+    winner-early j y q = let (l, e) = least-in before waiting 256 j y q in T→true (isEarly y) (all-early j y l e)
 
     -- Where nothing is on time, best-effort has the port if it waits.
     pub grant-waits : has b p ≡ true → grant r b p ≡ bestEffort
@@ -101,8 +101,8 @@ module _ (r : Router) (b p : ℕ) where
     unfolding grant granted
     grant-early f i x l e h =
         let (j, y, q, n) = wins i x l e in
-        let le = not-before x y true true (true-is (isEarly x) (all-early i x l e)) (winner-early j y q) n in
-        let near = true-is (isNear y) (omega (arith, orders, diff-nat (x .time) (r .clock), diff-nat (y .time) (r .clock))) in
+        let le = not-before x y true true (T→true (isEarly x) (all-early i x l e)) (winner-early j y q) n in
+        let near = T→true (isNear y) (omega (arith, orders, diff-nat (x .time) (r .clock), diff-nat (y .time) (r .clock))) in
         (j, y, rw (q, winner-early j y q, f, near), le)
 
   -- By cases of the winner, which is a packet that waits.
@@ -113,7 +113,7 @@ module _ (r : Router) (b p : ℕ) where
       cases : (i : ℕ) (x : Packet) → i < 256 → waiting i ≡ some x → (a t d : Bool) → isEarly x ≡ a → isNear x ≡ d → Rests r p (cond a (cond t bestEffort (cond d (early (i, x)) nobody)) (onTime (i, x)))
       cases i x l e false t d q z = (l, e, not-lt (r .clock) (x .time) q)
       cases i x l e true true d q z = tt
-      cases i x l e true false true q z = (l, e, is-true (isEarly x) q, is-true (isNear x) z)
+      cases i x l e true false true q z = (l, e, true→T (isEarly x) q, true→T (isNear x) z)
       cases i x l e true false false q z = tt
 
       go : (v : Option (ℕ × Packet)) → winner ≡ v → (t : Bool) → Rests r p (granted v t (r .clock) (r .horizon p))

@@ -9,7 +9,7 @@ use native.Mathlib.Omega.{arith}
 use lib.IntN.{ℤ}
 use lib.Signed.{ltZ}
 use Rattle.rules.specs.Order.{better, least, Order, by, then, onTimeFirst, comparator}
-use Rattle.rules.proofs.Booleans.{some-inj, none-some, is-true, true-is}
+use Rattle.rules.proofs.Booleans.{some-inj, none-some, true→T, T→true}
 use Rattle.rules.proofs.Integers.{orders, not-lt}
 
 -- ---- strict orders
@@ -33,14 +33,14 @@ fails false n = refl
 -- Whole numbers.
 pub strict-wholes : Strict ltZ
 strict-wholes = record {
-  irrefl = λ x e. let h = is-true (ltZ x x) e in omega (arith, orders);
-  trans = λ x y z e f. let h = is-true (ltZ x y) e in let k = is-true (ltZ y z) f in true-is (ltZ x z) (omega (arith, orders));
+  irrefl = λ x e. let h = true→T (ltZ x x) e in omega (arith, orders);
+  trans = λ x y z e f. let h = true→T (ltZ x y) e in let k = true→T (ltZ y z) f in T→true (ltZ x z) (omega (arith, orders));
   cotrans = λ x y z e. go x y z e (either (ltZ x y));
 }
   where
     go : (x y z : ℤ) → ltZ x z ≡ true → (ltZ x y ≡ true) ⊎ (ltZ x y ≡ false) → (ltZ x y ≡ true) ⊎ (ltZ y z ≡ true)
     go x y z e (inl h) = inl h
-    go x y z e (inr h) = let k = is-true (ltZ x z) e in let n = not-lt x y h in inr (true-is (ltZ y z) (omega (arith, orders)))
+    go x y z e (inr h) = let k = true→T (ltZ x z) e in let n = not-lt x y h in inr (T→true (ltZ y z) (omega (arith, orders)))
 
 -- By a key.
 pub strict-by : {A K : Type 0} (key : A → K) {less : Order K} → Strict less → Strict (by key less)

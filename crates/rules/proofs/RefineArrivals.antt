@@ -26,7 +26,7 @@ use Rattle.rules.proofs.Booleans.{cons-first, cons-rest}
 use Rattle.rules.proofs.Integers.{diff-in-time}
 use Rattle.rules.proofs.WholeLaws.{fresh-held, Passed, arrival-by, first-place, arrival-room, arrival-code}
 use Rattle.rules.proofs.Good.{Good, Input, after, arrivals-kept, input-then}
-use Rattle.rules.proofs.TimeLaws.{plus-cut, offset-is}
+use Rattle.rules.proofs.TimeLaws.{plus-cut, offset-difference}
 use Rattle.rules.proofs.AreaLaws.{length-packet, length-payload, packet-same, packet-other, length-packed}
 use Rattle.rules.proofs.StateLaws.{Reads, none-out, reads-self, reads-put, reads-off, topFirst-same}
 use Rattle.rules.proofs.Relation.{SlotShows, Untouched, Rel, rel-free, shows-put, settings-places, kept-room}
@@ -59,7 +59,7 @@ module _ (B : Board) (L : Laws B) where
     -- An offset of at least - d is a deadline that is not before the clock.
     in-time-same : has (call .arriving) p ≡ true → leZ (negℤ (pos (get s (Delay, i)))) (offset (bits c) (stamp c k) (get s clock)) ≡ leZ (w .clock) (call .times p +ℤ pos (w .entry i .delay))
     in-time-same h =
-        ap₂ (λ (o : ℤ) (d : ℕ). leZ (negℤ (pos d)) o) (ap₂ (offset (bits c)) (I .header p hp h) (R .settings .reads clock refl (omega arith)) ∙ offset-is c (call .times p) (w .clock) (I .from p hp h) (I .soon p hp h)) delay-same
+        ap₂ (λ (o : ℤ) (d : ℕ). leZ (negℤ (pos d)) o) (ap₂ (offset (bits c)) (I .header p hp h) (R .settings .reads clock refl (omega arith)) ∙ offset-difference c (call .times p) (w .clock) (I .from p hp h) (I .soon p hp h)) delay-same
         ∙ diff-in-time (w .entry i .delay) (call .times p) (w .clock)
 
     -- Both routers answer an arrival alike.
@@ -157,9 +157,9 @@ module _ (B : Board) (L : Laws B) where
       }
 
       -- The top idle address is j.
-      stored-is : Tick.placed B r k ≡ r′
+      placed-stores : Tick.placed B r k ≡ r′
       unfolding Tick.placed
-      stored-is =
+      placed-stores =
           let e : get s free - 1 ≡ N = omega (arith, count) in
           ap₂ stored-at e (ap (λ (n : ℕ). get s (Idle, n)) e ∙ cons-first top)
 
@@ -170,7 +170,7 @@ module _ (B : Board) (L : Laws B) where
       where
         first : (l : List ℕ) → w .free ≡ l → Passed c w (call .arriving) p k (call .times p) (made c w p k (call .times p)) → Rel B L (Tick.placed B r k) (placed l (made c w p k (call .times p)) w)
         first [] e m = absurd (arrival-room c w k (call .times p) (m .refusal) e)
-        first (j ∷ l) e m = rw (stored-is (m .brought) j l e) (stored-rel (m .brought) j l e)
+        first (j ∷ l) e m = rw (placed-stores (m .brought) j l e) (stored-rel (m .brought) j l e)
 
   -- ---- the arrivals on the ports below p
 

@@ -43,10 +43,10 @@ remains t none = 0
 remains t (some h) = cond (isDue t (h .packet)) 0 (h .left)
 
 -- Held before and without a port now: the place is emptied.
-returns-is : (t : ℤ) (v : Option Held) → (not (not (isHeld v)) && eqb (remains t v) 0) ≡ leaves t v
+returns-leaves : (t : ℤ) (v : Option Held) → (not (not (isHeld v)) && eqb (remains t v) 0) ≡ leaves t v
 unfolding isHeld remaining
-returns-is t none = refl
-returns-is t (some h) = go (isDue t (h .packet)) (eqb (h .left) 0) refl
+returns-leaves t none = refl
+returns-leaves t (some h) = go (isDue t (h .packet)) (eqb (h .left) 0) refl
   where
     go : (a b : Bool) → eqb (h .left) 0 ≡ b → eqb (cond a 0 (h .left)) 0 ≡ not (isHeld (cond (a || b) none (some h)))
     go true b e = refl
@@ -147,10 +147,10 @@ module _ (B : Board) (L : Laws B) where
         here = emptied-at t n w n ∙ rw (le-ltb n n (omega arith))
 
         tests : (not (eqb (get before (Mask, n)) 0) && eqb (get s′ (Mask, n)) 0) ≡ leaves t v
-        tests = rw (was n l, P .slots .reads (Mask, n) refl l, mask-remains n l) (returns-is t v)
+        tests = rw (was n l, P .slots .reads (Mask, n) refl l, mask-remains n l) (returns-leaves t v)
 
-        free-is : e (suc n) .free ≡ cond (leaves t v) (n ∷ e n .free) (e n .free)
-        free-is = rw here
+        free-after : e (suc n) .free ≡ cond (leaves t v) (n ∷ e n .free) (e n .free)
+        free-after = rw here
 
         room : isHeld v ≡ true → get s′ free < 256
         room h =
@@ -165,9 +165,9 @@ module _ (B : Board) (L : Laws B) where
             record {
               settings = rw (tests, m) (push-reads (P .settings) n h refl refl);
               slots = rw (tests, m) (push-reads (P .slots) n h refl refl);
-              stacked = rw (tests, free-is, m) (push-stack (P .settings) n h ∙ ap (λ (l : List ℕ). n ∷ l) (P .stacked));
+              stacked = rw (tests, free-after, m) (push-stack (P .settings) n h ∙ ap (λ (l : List ℕ). n ∷ l) (P .stacked));
             }
-        finish false m = record { settings = rw (tests, m) (P .settings); slots = rw (tests, m) (P .slots); stacked = rw (tests, free-is, m) (P .stacked) }
+        finish false m = record { settings = rw (tests, m) (P .settings); slots = rw (tests, m) (P .slots); stacked = rw (tests, free-after, m) (P .stacked) }
 
     -- By induction over the slots; withdrawal leaves settings and stack.
     backs : (n : ℕ) → n ≤ 256 → Back n
@@ -189,17 +189,17 @@ module _ (B : Board) (L : Laws B) where
         O : Reads B L stacks (back 256) (get s₃)
         O = backs 256 (omega arith) .slots
 
-        mask-is : {v : Option Held} → w .place i ≡ v → get (back 256) (Mask, i) ≡ remains t v
-        mask-is e = O .reads (Mask, i) refl l ∙ mask-remains i l ∙ ap (remains t) e
+        mask-after : {v : Option Held} → w .place i ≡ v → get (back 256) (Mask, i) ≡ remains t v
+        mask-after e = O .reads (Mask, i) refl l ∙ mask-remains i l ∙ ap (remains t) e
 
         go : (v : Option Held) → w .place i ≡ v → SlotShows B L r i v → SlotShows B L (with-state B L r (back 256)) i (remaining t v)
-        go none e h = mask-is e
+        go none e h = mask-after e
         go (some h) e H = at (isDue t (h .packet)) (eqb (h .left) 0) refl refl
           where
             at : (a b : Bool) → isDue t (h .packet) ≡ a → eqb (h .left) 0 ≡ b → SlotShows B L (with-state B L r (back 256)) i (cond (a || b) none (some h))
-            at true b p q = mask-is e ∙ rw p
-            at false true p q = mask-is e ∙ rw p (eqb-true (h .left) 0 q)
-            at false false p q = record { time = O .reads (Time, i) refl l ∙ M .reads (Time, i) refl l ∙ H .time; deadline = O .reads (Deadline, i) refl l ∙ M .reads (Deadline, i) refl l ∙ H .deadline; left = mask-is e ∙ rw p; bytes = H .bytes }
+            at true b p q = mask-after e ∙ rw p
+            at false true p q = mask-after e ∙ rw p (eqb-true (h .left) 0 q)
+            at false false p q = record { time = O .reads (Time, i) refl l ∙ M .reads (Time, i) refl l ∙ H .time; deadline = O .reads (Deadline, i) refl l ∙ M .reads (Deadline, i) refl l ∙ H .deadline; left = mask-after e ∙ rw p; bytes = H .bytes }
 
     -- Steps 4 and 5 keep the relation.
     pub ended-rel : Rel B L (with-state B L r (back 256)) (e 256)

@@ -14,7 +14,7 @@ use Rattle.rules.specs.Account.{NotedTick, samePacket, isSent, times, is
 use Rattle.rules.specs.Areas.{packet, Grant, nobody, bestEffort, onTime, early}
 use Rattle.rules.specs.Order.{count, counted}
 use Rattle.rules.specs.Whole.{Packet, Held, Router, withPlaces, Arrival, absent, refused, accepted, toServe, grant, isDue, due, withdrawn, meets, ticked, Report, packetBytes, grantBytes}
-use Rattle.rules.proofs.Booleans.{none-some, and-left, and-right, is-true, true-is, false-is}
+use Rattle.rules.proofs.Booleans.{none-some, and-left, and-right, true→T, T→true, ¬T→false}
 use Rattle.rules.proofs.IndexLaws.{count-none, count-only, count-some}
 use Rattle.rules.proofs.Integers.{orders, diff-nat, antisym, later-differs}
 use Rattle.rules.proofs.WholeLaws.{AllHeld, emptied-held}
@@ -33,16 +33,16 @@ same-keys x y e =
     let b = leZ (y .arrived) (x .arrived) in
     let d = eqb (x .input) (y .input) in
     let f = and-left (a && b) d e in
-    (antisym (x .arrived) (y .arrived) (is-true a (and-left a b f)) (is-true b (and-right a b f)), eqb-true (x .input) (y .input) (and-right (a && b) d e))
+    (antisym (x .arrived) (y .arrived) (true→T a (and-left a b f)) (true→T b (and-right a b f)), eqb-true (x .input) (y .input) (and-right (a && b) d e))
 
 -- A packet is the same as itself.
 pub same-self : (x : Packet) → samePacket x x ≡ true
 unfolding samePacket
-same-self x = rw (true-is (leZ (x .arrived) (x .arrived)) (omega (arith, orders)), eq-eqb (x .input) (x .input) refl)
+same-self x = rw (T→true (leZ (x .arrived) (x .arrived)) (omega (arith, orders)), eq-eqb (x .input) (x .input) refl)
 
 -- What differs in tick or port is not the same.
 differs : (x y : Packet) → (x .arrived ≡ y .arrived → x .input ≡ y .input → ⊥) → samePacket x y ≡ false
-differs x y n = false-is (samePacket x y) (λ h. let (a, b) = same-keys x y (true-is (samePacket x y) h) in n a b)
+differs x y n = ¬T→false (samePacket x y) (λ h. let (a, b) = same-keys x y (T→true (samePacket x y) h) in n a b)
 
 -- Of a list, some packet is the same as x.
 times-some : (x : Packet) (l : List Packet) → 0 < times x l → (y : Packet) × List·Memᴰ y l × (samePacket x y ≡ true)
@@ -102,22 +102,22 @@ module _ (c : ℕ) where
     router-at p = withPlaces r (then p .place) (then p .free)
 
     -- What the report says of a port.
-    pub arrival-is : (q : ℕ) → d .report .arrival q ≡ meets c (d .call) (after c r (d .call) q) q
+    pub arrival-reported : (q : ℕ) → d .report .arrival q ≡ meets c (d .call) (after c r (d .call) q) q
     unfolding ticked
-    arrival-is q = ap (λ (k : Report). k .arrival q) (t .report)
+    arrival-reported q = ap (λ (k : Report). k .arrival q) (t .report)
 
-    pub grant-is : (p : ℕ) → d .report .grant p ≡ grant (router-at p) (d .call .bestEffort) p
+    pub grant-reported : (p : ℕ) → d .report .grant p ≡ grant (router-at p) (d .call .bestEffort) p
     unfolding ticked
-    grant-is p = ap (λ (k : Report). k .grant p) (t .report) ∙ ap (λ (v : Router). grant v (d .call .bestEffort) p) (served-frame c r (d .call) p)
+    grant-reported p = ap (λ (k : Report). k .grant p) (t .report) ∙ ap (λ (v : Router). grant v (d .call .bestEffort) p) (served-frame c r (d .call) p)
 
-    withdrawn-is : (p : ℕ) → d .report .withdrawn p ≡ withdrawn (then 5 .clock) (then 5 .place) p 256
+    withdrawn-reported : (p : ℕ) → d .report .withdrawn p ≡ withdrawn (then 5 .clock) (then 5 .place) p 256
     unfolding ticked
-    withdrawn-is p = ap (λ (k : Report). k .withdrawn p) (t .report)
+    withdrawn-reported p = ap (λ (k : Report). k .withdrawn p) (t .report)
 
     -- An accepted packet bears the clock and the port of its tick.
     dated : (q : ℕ) (y : Packet) → d .report .arrival q ≡ accepted y → (y .arrived ≡ r .clock) × (y .input ≡ q)
     dated q y e =
-        let m = accepted-passed c r (d .call) q y (sym (arrival-is q) ∙ e) in
+        let m = accepted-passed c r (d .call) q y (sym (arrival-reported q) ∙ e) in
         (sym (ap (λ (z : Packet). z .arrived) (m .packet)), sym (ap (λ (z : Packet). z .input) (m .packet)))
 
     -- An arrival that brings no packet the same as x takes none.
@@ -159,7 +159,7 @@ module _ (c : ℕ) where
 
     -- A granted packet rests at its place, by the clock and horizon met.
     rests : (p : ℕ) (g : Grant (ℕ × Packet)) → d .report .grant p ≡ g → Rests (router-at p) p g
-    rests p g e = subst (Rests (router-at p) p) (sym (grant-is p) ∙ e) (grant-rests (router-at p) (d .call .bestEffort) p)
+    rests p g e = subst (Rests (router-at p) p) (sym (grant-reported p) ∙ e) (grant-rests (router-at p) (d .call .bestEffort) p)
 
     module _ (p : ℕ) (hp : p < 5) (i : ℕ) (x : Packet) where
       -- Its time has come, so it is not after the clock and horizon.
@@ -180,7 +180,7 @@ module _ (c : ℕ) where
 
     -- A withdrawn packet waits, and is due.
     withdrawn-at : (p : ℕ) (x : Packet) → List·Memᴰ x (d .report .withdrawn p) → (i : ℕ) × (i < 256) × (toServe (then 5 .place i) p ≡ some x) × (isDue (then 5 .clock) x ≡ true)
-    withdrawn-at p x m = withdrawn-held (then 5 .clock) (then 5 .place) p 256 x (subst (List·Memᴰ x) (withdrawn-is p) m)
+    withdrawn-at p x m = withdrawn-held (then 5 .clock) (then 5 .place) p 256 x (subst (List·Memᴰ x) (withdrawn-reported p) m)
 
     withdrawn-due : (p : ℕ) (x : Packet) → List·Memᴰ x (d .report .withdrawn p) → (x .arrived ≤ℤ r .clock) × (r .clock ≡ x .deadline)
     unfolding isDue
@@ -190,7 +190,7 @@ module _ (c : ℕ) where
         let z = then 5 .clock in
         let f = and-left (leZ (x .deadline) z) (leZ z (x .deadline)) b in
         let g = and-right (leZ (x .deadline) z) (leZ z (x .deadline)) b in
-        (record { le = s }, sym (clock-at c r (d .call) 5) ∙ antisym z (x .deadline) (is-true (leZ z (x .deadline)) g) (is-true (leZ (x .deadline) z) f))
+        (record { le = s }, sym (clock-at c r (d .call) 5) ∙ antisym z (x .deadline) (true→T (leZ z (x .deadline)) g) (true→T (leZ (x .deadline) z) f))
 
     -- ---- where its packets come from
 
@@ -199,7 +199,7 @@ module _ (c : ℕ) where
       -- Serving makes no packet.
       served-known : (q : ℕ) → q ≤ 5 → AllHeld (λ h. K (h .packet)) (then q .place)
       served-known = served-all c r (d .call) (λ h. K (h .packet)) (λ p l h k. k)
-          (after-all c r (d .call) (λ h. K (h .packet)) all 5 (λ q m x e. let k = arrival-is q ∙ e in new x (q, m, k, dated q x k .0, dated q x k .1)))
+          (after-all c r (d .call) (λ h. K (h .packet)) all 5 (λ q m x e. let k = arrival-reported q ∙ e in new x (q, m, k, dated q x k .0, dated q x k .1)))
 
       -- Neither does emptying.
       ended-known : AllHeld (λ h. K (h .packet)) (next c d .place)

@@ -15,7 +15,7 @@ use Rattle.rules.specs.Account.{NotedTick, samePacket, isSent, times, is
 use Rattle.rules.specs.Areas.{byte, packet, has, bestEffort, onTime, early, asked, arrivalQuestions, arrivalAnswer}
 use Rattle.rules.specs.Order.{count, counted}
 use Rattle.rules.specs.Whole.{Packet, Held, Router, TickCall, Arrival, toServe, meets, arrivalRefusal, arrived, ticked, Report, arrivalCode}
-use Rattle.rules.proofs.Booleans.{is-true, same-test}
+use Rattle.rules.proofs.Booleans.{true→T, same-test}
 use Rattle.rules.proofs.IndexLaws.{count-none, count-some, count-same, count-two, count-pos, counted-true, counted-false}
 use Rattle.rules.proofs.Integers.{orders, suc-nat, not-le}
 use Rattle.rules.proofs.Masks.{some-port}
@@ -24,7 +24,7 @@ use Rattle.rules.proofs.Grants.{grant-on-time, grant-best-effort, grant
 use Rattle.rules.proofs.Good.{after, arrivals-frame, chosen}
 use Rattle.rules.proofs.Accounting.{taken, for-port, any, holds, tick-in, arrivals-left, served-left}
 use Rattle.rules.proofs.Runs.{next, next-good, Ticking, Run, rest, quiet, ticks, split, moment, over}
-use Rattle.rules.proofs.RunAccounts.{same-self, left-x, router-at, arrival-is, grant-is, window-at, run-good, acceptedOn, accepted-append, conserve, once, unique, held-accepted, toServe-accepted, left-nothing, in-time, genuine, permitted}
+use Rattle.rules.proofs.RunAccounts.{same-self, left-x, router-at, arrival-reported, grant-reported, window-at, run-good, acceptedOn, accepted-append, conserve, once, unique, held-accepted, toServe-accepted, left-nothing, in-time, genuine, permitted}
 
 -- ---- the free places of a tick
 
@@ -42,7 +42,7 @@ module _ (c : ℕ) where
   -- ---- questions 6 to 8 are exact
 
   full-same : (a b : ℕ) → (a ≡ 0 → b ≡ 256) → (b ≡ 256 → a ≡ 0) → eqb a 0 ≡ eqb b 256
-  full-same a b f g = same-test (eqb a 0) (eqb b 256) (λ t. is-true (eqb b 256) (eq-eqb b 256 (f (eqb→eq a 0 t)))) (λ t. is-true (eqb a 0) (eq-eqb a 0 (g (eqb→eq b 256 t))))
+  full-same a b f g = same-test (eqb a 0) (eqb b 256) (λ t. true→T (eqb b 256) (eq-eqb b 256 (f (eqb→eq a 0 t)))) (λ t. true→T (eqb a 0) (eq-eqb a 0 (g (eqb→eq b 256 t))))
 
   -- By the settings, which the tick does not change, and the free places, which make 256 with the stored packets.
   answers-due : {d : NotedTick} → Ticking c d → (p : ℕ) → arrivalCode (d .report .arrival p) ≡ answerDue d p
@@ -55,10 +55,10 @@ module _ (c : ℕ) where
       let f = arrivals-frame c w call p in
       let free = arrivals-free c w call p in
       let kept = t .good .kept .all in
-      let n = count-same (λ q. eqb (arrivalCode (d .report .arrival q)) 1) (λ q. eqb (arrivalCode (meets c call (after c w call q) q)) 1) p (λ q l. ap (λ (a : Arrival). eqb (arrivalCode a) 1) (arrival-is c t q)) in
+      let n = count-same (λ q. eqb (arrivalCode (d .report .arrival q)) 1) (λ q. eqb (arrivalCode (meets c call (after c w call q) q)) 1) p (λ q l. ap (λ (a : Arrival). eqb (arrivalCode a) 1) (arrival-reported c t q)) in
       let answer : ℕ → ℕ = λ q. cond (has (call .arriving) p) (arrivalAnswer q) 0 in
       let e = w .entry (byte k 0) in
-      ap arrivalCode (arrival-is c t p) ∙ arrival-code c r (call .arriving) p k (call .times p)
+      ap arrivalCode (arrival-reported c t p) ∙ arrival-code c r (call .arriving) p k (call .times p)
       ∙ ap (λ (v : Router). answer (arrivalRefusal c v k (call .times p))) f
       ∙ ap (λ (b : Bool). answer (asked (arrivalQuestions (not (eqb (e .mask) 0)) (leZ (w .clock) (call .times p +ℤ pos (e .delay))) (not b))))
       (full-same (length (r .free)) (stored (w .place) + count p (λ q. eqb (arrivalCode (d .report .arrival q)) 1)) (omega arith) (omega arith))
@@ -141,7 +141,7 @@ module _ (c : ℕ) where
           let z = left-nothing c S empty p x in
           let o = once c (for-port p) x R′ a in
           let s = accepted-append c (for-port p) x before (d ∷ []) in
-          let q = count-same (λ q. taken (for-port p) x (d .report .arrival q)) (λ q. taken (for-port p) x (meets c (d .call) (after c (d .met) (d .call) q) q)) 5 (λ q l. ap (taken (for-port p) x) (arrival-is c t q)) in
+          let q = count-same (λ q. taken (for-port p) x (d .report .arrival q)) (λ q. taken (for-port p) x (meets c (d .call) (after c (d .met) (d .call) q) q)) 5 (λ q l. ap (taken (for-port p) x) (arrival-reported c t q)) in
           let al = arrivals-left c (d .met) (d .call) (t .good) (t .input) p hp x 5 in
           let sl = served-left c (d .met) (d .call) (t .good) (t .input) p hp x p (omega arith) in
           let n = count-none (λ q. eqb q p && isSent x (chosen c (d .met) (d .call) q)) p (λ q l. ap (λ (e : Bool). e && isSent x (chosen c (d .met) (d .call) q)) (ne-eqb q p (omega arith))) in
@@ -194,7 +194,7 @@ module _ (c : ℕ) where
       on-time x W ready =
           let (i, l, e) = waits-at x W in
           let (j, y, g, le) = grant-on-time here (d .call .bestEffort) p i x l e (ready .le) in
-          (j, y, grant-is c t p ∙ g, record { le = le })
+          (j, y, grant-reported c t p ∙ g, record { le = le })
 
       clash : {C : Type 0} {w : ℕ × Packet} → d .report .grant p ≡ bestEffort → d .report .grant p ≡ onTime w → C
       clash e q = let z : _≡_ {A = ℕ} 0 1 = cc in absurd (omega arith)
@@ -203,16 +203,16 @@ module _ (c : ℕ) where
       prompt : Prompt before d p
       prompt = record {
         on-time = on-time;
-        best-effort = λ e. (grant-best-effort here (d .call .bestEffort) p (sym (grant-is c t p) ∙ e), λ x W. record { lt = later x W e (leZ (x .time) (d .met .clock)) refl });
-        best-effort-if = λ b N. grant-is c t p ∙ grant-waits here (d .call .bestEffort) p (none-ready N) b;
+        best-effort = λ e. (grant-best-effort here (d .call .bestEffort) p (sym (grant-reported c t p) ∙ e), λ x W. record { lt = later x W e (leZ (x .time) (d .met .clock)) refl });
+        best-effort-if = λ b N. grant-reported c t p ∙ grant-waits here (d .call .bestEffort) p (none-ready N) b;
         early = λ b N x W near.
             let (i, l, e) = waits-at x W in
             let (j, y, g, le) = grant-early here (d .call .bestEffort) p (none-ready N) b i x l e (near .le) in
-            (j, y, grant-is c t p ∙ g, record { le = le });
+            (j, y, grant-reported c t p ∙ g, record { le = le });
       }
         where
           later : (x : Packet) → Unserved before d p x → d .report .grant p ≡ bestEffort → (v : Bool) → leZ (x .time) (d .met .clock) ≡ v → T (ltZ (d .met .clock) (x .time))
-          later x W e true q = let (j, y, g, le) = on-time x W (record { le = is-true (leZ (x .time) (d .met .clock)) q }) in clash e g
+          later x W e true q = let (j, y, g, le) = on-time x W (record { le = true→T (leZ (x .time) (d .met .clock)) q }) in clash e g
           later x W e false q = not-le (x .time) (d .met .clock) q
 
     -- All of it.

@@ -15,7 +15,7 @@ use Rattle.rules.specs.Order.{all, topFirst}
 use Rattle.rules.specs.Areas.{Store, bits, half, packet, stamp, elem, distinct}
 use Rattle.rules.specs.Board.{Board, Horizon, Latch, Idle, Time, Deadline, Mask, Delay, Routes, clock, free}
 use Rattle.rules.specs.Questions.{connectionSound, horizonSound, settingsSound, stack, listed, stackSound, slotSound, slotsSound, sound}
-use Rattle.rules.proofs.Booleans.{is-true, true-is, and-left, and-right, and-both, or-right, not-false, beq-eq, eq-beq}
+use Rattle.rules.proofs.Booleans.{true→T, T→true, and-left, and-right, and-both, or-right, not-false, beq-eq, eq-beq}
 use Rattle.rules.proofs.IndexLaws.{all-at, all-true}
 
 -- ---- the rules
@@ -127,7 +127,7 @@ and-iff a b = (λ e. (and-left a b e, and-right a b e), λ p. and-both a b (p .0
 
 -- An order of whole numbers, by its test.
 order-iff : (a b : ℤ) → (leZ a b ≡ true) ↔ (a ≤ℤ b)
-order-iff a b = (λ e. leZ-yes (is-true (leZ a b) e), λ l. true-is (leZ a b) (l .le))
+order-iff a b = (λ e. leZ-yes (true→T (leZ a b) e), λ l. T→true (leZ a b) (l .le))
 
 -- A slot is empty or passes the test b.
 held-iff : (m : ℕ) (b : Bool) → ((eqb m 0 || b) ≡ true) ↔ (m ≢ 0 → b ≡ true)

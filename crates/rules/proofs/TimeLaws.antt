@@ -77,13 +77,13 @@ cut-same b u v l h = go (leZ u v) refl (leZ v u) h
 
 module _ (c : ℕ) (u t : ℤ) where
   -- The offset of a true time.
-  pub offset-is : T (leZ (negℤ (pos (half c))) (u -ℤ t)) → T (ltZ (u -ℤ t) (pos (half c))) → offset (bits c) (cut (bits c) u) (cut (bits c) t) ≡ u -ℤ t
+  pub offset-difference : T (leZ (negℤ (pos (half c))) (u -ℤ t)) → T (ltZ (u -ℤ t) (pos (half c))) → offset (bits c) (cut (bits c) u) (cut (bits c) t) ≡ u -ℤ t
   unfolding half bits
-  offset-is from to = offset-true (8 * c - 1) u t (record { le = from }) (record { lt = to })
+  offset-difference from to = offset-true (8 * c - 1) u t (record { le = from }) (record { lt = to })
 
   -- The key of a time from the clock on, less than a turn ahead.
-  key-is : T (leZ t u) → T (ltZ (u -ℤ t) (pos (2 ^ bits c))) → pos (minus (bits c) (cut (bits c) u) (cut (bits c) t)) ≡ u -ℤ t
-  key-is from to = key-true (bits c) u t (record { le = omega (arith, orders, diff-nat u t) }) (record { lt = to })
+  key-difference : T (leZ t u) → T (ltZ (u -ℤ t) (pos (2 ^ bits c))) → pos (minus (bits c) (cut (bits c) u) (cut (bits c) t)) ≡ u -ℤ t
+  key-difference from to = key-true (bits c) u t (record { le = omega (arith, orders, diff-nat u t) }) (record { lt = to })
 
 -- A turn is two halves.
 turn : (c : ℕ) → 2 ^ bits c ≡ half c + half c
@@ -106,15 +106,15 @@ module _ (c : ℕ) (t : ℤ) (x : Packet) (F : InWindow c t (half c) x) where
 
   -- Its offset is its time less the clock.
   pub window-offset : offset (bits c) (cut (bits c) (x .time)) (cut (bits c) t) ≡ x .time -ℤ t
-  window-offset = offset-is c (x .time) t (let l = window-from in omega (arith, orders, F .small, neg-nat (pos (F .delay)), neg-nat (pos (half c)))) (F .soon)
+  window-offset = offset-difference c (x .time) t (let l = window-from in omega (arith, orders, F .small, neg-nat (pos (F .delay)), neg-nat (pos (half c)))) (F .soon)
 
   -- On time, its key is its deadline less the clock.
   pub window-on-time : T (leZ (x .time) t) → pos (minus (bits c) (cut (bits c) (x .deadline)) (cut (bits c) t)) ≡ x .deadline -ℤ t
-  window-on-time l = key-is c (x .deadline) t (F .due) (omega (arith, orders, sum, F .small, diff-nat (x .deadline) t, turn c))
+  window-on-time l = key-difference c (x .deadline) t (F .due) (omega (arith, orders, sum, F .small, diff-nat (x .deadline) t, turn c))
 
   -- Early, its key is its time less the clock.
   pub window-early : T (ltZ t (x .time)) → pos (minus (bits c) (cut (bits c) (x .time)) (cut (bits c) t)) ≡ x .time -ℤ t
-  window-early l = key-is c (x .time) t (omega (arith, orders)) (let s = F .soon in omega (arith, orders, turn c))
+  window-early l = key-difference c (x .time) t (omega (arith, orders)) (let s = F .soon in omega (arith, orders, turn c))
 
   -- Its deadline is less than a turn ahead.
   near : T (ltZ (x .deadline -ℤ t) (pos (2 ^ bits c)))
@@ -129,5 +129,5 @@ module _ (c : ℕ) (t : ℤ) (x : Packet) (F : InWindow c t (half c) x) where
   pub window-delay : minus (bits c) (cut (bits c) (x .deadline)) (cut (bits c) (x .time)) ≡ F .delay
   window-delay =
       let d = diff-nat (x .deadline) (x .time) in
-      let k = key-is c (x .deadline) (x .time) (omega (arith, orders, sum)) (omega (arith, orders, sum, F .small, turn c)) in
+      let k = key-difference c (x .deadline) (x .time) (omega (arith, orders, sum)) (omega (arith, orders, sum, F .small, turn c)) in
       omega (arith, ap up k, ap down k, sum)

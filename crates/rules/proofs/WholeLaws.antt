@@ -16,7 +16,7 @@ use Rattle.rules.specs.Account.{stored, Kept}
 use Rattle.rules.specs.Areas.{byte, packet, has, without, elem, distinct, Grant, nobody, bestEffort, onTime, early, asked, arrivalQuestions, arrivalAnswer}
 use Rattle.rules.specs.Order.{count, counted}
 use Rattle.rules.specs.Whole.{Packet, Held, Router, withPlaces, put, Arrival, absent, refused, accepted, placed, admitted, lose, sent, isDue, remaining, emptied, arrivalRefusal, made, arrival, arrivalCode, isHeld}
-use Rattle.rules.proofs.Booleans.{is-true, asked-passed, some-inj, none-some, and-left, and-right, or-right, not-false}
+use Rattle.rules.proofs.Booleans.{true→T, asked-passed, some-inj, none-some, and-left, and-right, or-right, not-false}
 use Rattle.rules.proofs.IndexLaws.{count-change, count-same}
 use Rattle.rules.proofs.Integers.{ltb-iff}
 use Rattle.rules.proofs.Grants.{Rests}
@@ -148,7 +148,7 @@ module _ (c : ℕ) where
       let (a, f) = asked-passed (not (eqb m 0)) 5 _ e in
       let (b, g) = asked-passed (leZ (r .clock) (u +ℤ pos (r .entry (byte k 0) .delay))) 6 _ f in
       let n = eqb-false m 0 (not-false (eqb m 0) a) in
-      (omega arith, is-true (leZ (r .clock) (u +ℤ pos (r .entry (byte k 0) .delay))) b)
+      (omega arith, true→T (leZ (r .clock) (u +ℤ pos (r .entry (byte k 0) .delay))) b)
 
   -- Where no place is free, 8 is the answer if the other questions are passed.
   pub arrival-room : (r : Router) (k : List ℕ) (u : ℤ) → arrivalRefusal c r k u ≡ 0 → r .free ≡ [] → ⊥

@@ -135,8 +135,8 @@ module _ (B : Board) (L : Laws B) where
     -- ---- it is good
 
     -- What a place holds is a slot's packet, and the slot has a port to serve.
-    held-is : (i : ℕ) (h : Held) → placeOf r i ≡ some h → (get s (Mask, i) ≢ 0) × (heldOf r i ≡ h)
-    held-is i h q = go (eqb (get s (Mask, i)) 0) refl q
+    held-of-slot : (i : ℕ) (h : Held) → placeOf r i ≡ some h → (get s (Mask, i) ≢ 0) × (heldOf r i ≡ h)
+    held-of-slot i h q = go (eqb (get s (Mask, i)) 0) refl q
       where
         go : (t : Bool) → eqb (get s (Mask, i)) 0 ≡ t → cond t none (some (heldOf r i)) ≡ some h → (get s (Mask, i) ≢ 0) × (heldOf r i ≡ h)
         go true a q = none-some q
@@ -206,8 +206,8 @@ module _ (B : Board) (L : Laws B) where
         ports = S .settings .register-4;
       };
       kept = kept;
-      window = λ i l h q. let (n, k) = held-is i h q in subst (HeldInWindow c (pos (get s clock)) (half c - 1)) k (slot-window i l (S .stored i l n));
-      busy = λ i l h q. let (n, k) = held-is i h q in subst Busy k (omega arith);
+      window = λ i l h q. let (n, k) = held-of-slot i h q in subst (HeldInWindow c (pos (get s clock)) (half c - 1)) k (slot-window i l (S .stored i l n));
+      busy = λ i l h q. let (n, k) = held-of-slot i h q in subst Busy k (omega arith);
     }
 
   -- ---- calls keep it

@@ -4,7 +4,7 @@ use Rattle.rules.specs.Board.{board8}
 use Rattle.rules.proofs.Board8Laws.{lawful8}
 use Rattle.rules.proofs.FieldBytes.{stamp-one}
 use Rattle.passes.specs.Stores.{store}
-use Rattle.passes.proofs.Arrivals.{placed-is, placed-leaves-room}
+use Rattle.passes.proofs.Arrivals.{stores-placed, placed-leaves-room}
 use borrow.Author.Needs.{needs}
 use Rattle.arrive.proofs.place.Statement.{statement}
 use Rattle.arrive.proofs.place.Tie as tie
@@ -24,7 +24,7 @@ returns c = let mask = c .before .before in
     let start = delay .before .before .before .before .before .before .before in
     let r = store (start .args .state .now) (start .args .memory .now) in
     let k = start .args .packet .now in
-    let e = placed-is board8 r k (sym (stamp-one k)) (delay .get .ensures) (later .later .ensures) (routes .get2 .ensures) (identifier .get3 .ensures) (free .free-count .ensures) (top .get4 .ensures)
+    let e = stores-placed board8 r k (sym (stamp-one k)) (delay .get .ensures) (later .later .ensures) (routes .get2 .ensures) (identifier .get3 .ensures) (free .free-count .ensures) (top .get4 .ensures)
     (memory .store-packet .ensures) (count .put-free .ensures) (time .put .ensures) (deadline .put2 .ensures) (mask .put3 .ensures) in
     (e, placed-leaves-room board8 lawful8 r k (start .pre .0) (start .pre .3) (free .free-count .ensures) (top .get4 .ensures) (search needs) e)
 

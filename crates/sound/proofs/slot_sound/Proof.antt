@@ -13,7 +13,7 @@ use Rattle.rules.specs.Clock.{offset}
 use Rattle.rules.specs.Questions.{slotSound}
 use Rattle.rules.proofs.FieldBytes.{stamp-one, packet-byte}
 use Rattle.passes.specs.Stores.{store}
-use Rattle.passes.proofs.SlotTests.{slot-sound-is}
+use Rattle.passes.proofs.SlotTests.{tests-slot-sound}
 use borrow.Author.Needs.{needs}
 use Rattle.sound.proofs.slot_sound.Statement.{statement}
 use Rattle.sound.proofs.slot_sound.Tie as tie
@@ -35,14 +35,14 @@ module _ (c : tie.After-since) where
   unfolding half
   by-delay et ev eh e =
       let m = c .before .before .before .before in
-      slot-sound-is board8 _ _ (m .before .read .ensures) (c .before .before .read2 .ensures) (c .before .read3 .ensures) et (c .since .ensures) ev eh
+      tests-slot-sound board8 _ _ (m .before .read .ensures) (c .before .before .read2 .ensures) (c .before .read3 .ensures) et (c .since .ensures) ev eh
       (e ∙ rw (ne-eqb _ _ (m .if1 .left), le-leb (m .before .read .result) 31 (omega arith)))
 
 returns : tie.Need-returns
-returns c = slot-sound-is board8 _ _ (c .before .read .ensures) refl refl refl refl refl refl (rw (eq-eqb _ _ (c .if1 .taken)))
+returns c = tests-slot-sound board8 _ _ (c .before .read .ensures) refl refl refl refl refl refl (rw (eq-eqb _ _ (c .if1 .taken)))
 
 returns-2 : tie.Need-returns-2
-returns-2 c = slot-sound-is board8 _ _ (c .before .before .read .ensures) refl refl refl refl refl refl (rw (ne-eqb _ _ (c .before .if1 .left), lt-leb (c .before .before .read .result) 31 (omega arith)))
+returns-2 c = tests-slot-sound board8 _ _ (c .before .before .read .ensures) refl refl refl refl refl refl (rw (ne-eqb _ _ (c .before .if1 .left), lt-leb (c .before .before .read .result) 31 (omega arith)))
 
 returns-3 : tie.Need-returns-3
 returns-3 c = by-delay (c .before) refl refl refl (rw (le-ltb (c .before .since .result) 128 (omega arith)))

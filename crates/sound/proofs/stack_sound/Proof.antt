@@ -7,19 +7,19 @@ use borrow.Author.Tests.{not-true, not-false, lt-leb, le-leb}
 use Rattle.rules.specs.Board.{board8}
 use Rattle.rules.specs.Questions.{stack, stackSound}
 use Rattle.rules.proofs.Board8Laws.{lawful8}
-use Rattle.passes.proofs.StackMarks.{stack-sound-is, sound-has-room}
+use Rattle.passes.proofs.StackMarks.{tests-stack-sound, sound-has-room}
 use borrow.Author.Needs.{needs}
 use Rattle.sound.proofs.stack_sound.Statement.{statement}
 use Rattle.sound.proofs.stack_sound.Tie as tie
 
 returns : tie.Need-returns
 returns c = let n = c .before .free-count in
-    (rw (← stack-sound-is board8 _ _ _ _ (n .ensures) refl refl, lt-leb (n .result) 256 (omega arith)), λ e. absurd (true≢false (sym e)))
+    (rw (← tests-stack-sound board8 _ _ _ _ (n .ensures) refl refl, lt-leb (n .result) 256 (omega arith)), λ e. absurd (true≢false (sym e)))
 
 returns-2 : tie.Need-returns-2
 returns-2 c = let n = c .before .before .before .before .free-count in
     let m = c .before .mark in
-    (rw (← stack-sound-is board8 _ _ _ _ (n .ensures) (m .ensures .different) refl, le-leb (n .result) 256 (omega arith), not-true (m .result) (c .if2 .taken)), λ e. absurd (true≢false (sym e)))
+    (rw (← tests-stack-sound board8 _ _ _ _ (n .ensures) (m .ensures .different) refl, le-leb (n .result) 256 (omega arith), not-true (m .result) (c .if2 .taken)), λ e. absurd (true≢false (sym e)))
 
 all-listed-requires : tie.Need-all-listed-requires
 unfolding stack
@@ -29,7 +29,7 @@ returns-3 : tie.Need-returns-3
 returns-3 c = let m = c .before .before .before in
     let n = m .before .before .before .free-count in
     let s = m .before .before .before .before .before .args .state .now in
-    let q : c .all-listed .result ≡ stackSound board8 s = rw (← stack-sound-is board8 s _ _ _ (n .ensures) (m .mark .ensures .different) (c .all-listed .ensures), le-leb (n .result) 256 (omega arith), not-false (m .mark .result) (c .before .before .if2 .left)) in
+    let q : c .all-listed .result ≡ stackSound board8 s = rw (← tests-stack-sound board8 s _ _ _ (n .ensures) (m .mark .ensures .different) (c .all-listed .ensures), le-leb (n .result) 256 (omega arith), not-false (m .mark .result) (c .before .before .if2 .left)) in
     (q, λ e. sound-has-room board8 lawful8 s _ _ _ (n .ensures) (m .mark .ensures) (sym q ∙ e))
 
 pub stack-sound-spec : {M : Type 1} → statement M

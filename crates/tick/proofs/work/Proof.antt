@@ -1,6 +1,6 @@
--- `tick::work` meets its contract: what the steps leave and answer makes `ticked` (`ticked-is` of Steps); the arrivals leave room on the stack. Assumes nothing.
+-- `tick::work` meets its contract: what the steps leave and answer makes `ticked` (`steps-ticked` of Steps); the arrivals leave room on the stack. Assumes nothing.
 use borrow.Author.Needs.{needs}
-use Rattle.tick.proofs.Steps.{ticked-is}
+use Rattle.tick.proofs.Steps.{steps-ticked}
 use Rattle.tick.proofs.work.Statement.{statement}
 use Rattle.tick.proofs.work.Tie as tie
 
@@ -16,7 +16,7 @@ returns c =
     let s = q .before .before .before .before .before .before .before .before in
     let a = s .before .before .before .before .before .before .before .before in
     let e = s .serve-and-settle .ensures in
-    ticked-is _ _ _ _ _ _ _ _ _ _ _ (a .arrive .ensures .1 .0) (a .arrive .ensures .0) (e .0) (e .1 .0) (e .1 .1 .0) (e .1 .1 .1) (q .put-answers .ensures)
+    steps-ticked _ _ _ _ _ _ _ _ _ _ _ (a .arrive .ensures .1 .0) (a .arrive .ensures .0) (e .0) (e .1 .0) (e .1 .1 .0) (e .1 .1 .1) (q .put-answers .ensures)
 
 pub work-spec : {M : Type 1} → statement M
 work-spec =
