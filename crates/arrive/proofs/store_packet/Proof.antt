@@ -33,10 +33,7 @@ pub store-packet-spec : {M : Type 1} → statement M
 store-packet-spec =
     tie.close
     (tie.spec
-    (λ c. search needs)
-    (λ c κs. search needs)
-    (λ c. search needs)
-    (λ c. search needs)
+    (λ c. search needs) (λ c κs. search needs) (λ c. search needs) (λ c. search needs)
     (λ c. search needs)
     copy-in-requires-2
     slice-write-memory

@@ -6,21 +6,14 @@ use native.Mathlib.Omega.{arith}
 use Rattle.choose.proofs.look.Statement.{statement}
 use Rattle.choose.proofs.look.Tie as tie
 
-get-requires : tie.Need-get-requires
-get-requires c κs = search needs
-
 returns : tie.Need-returns
 returns c = bests-none board8 _ _ (omega arith) _ (c .before .get .ensures) _ (c .before .before .before .pre .1) (c .if1 .taken)
-
-rank-requires : tie.Need-rank-requires
-rank-requires c κs = search needs
-
-offer-requires : tie.Need-offer-requires
-offer-requires c κs = search needs
 
 returns-2 : tie.Need-returns-2
 returns-2 c = let c₄ = c .before .before .before .before in
     bests-suc board8 _ _ (omega arith) _ (c₄ .get .ensures) _ (c₄ .before .before .pre .1) _ (c .before .rank .ensures) _ (c .offer .ensures)
 
 pub look-spec : {M : Type 1} → statement M
-look-spec = tie.close (tie.spec get-requires returns rank-requires offer-requires returns-2)
+look-spec =
+    tie.close
+    (tie.spec (λ c κs. search needs) returns (λ c κs. search needs) (λ c κs. search needs) returns-2)

@@ -5,12 +5,9 @@ use borrow.Author.Needs.{needs}
 use Rattle.clock.proofs.since.Statement.{statement}
 use Rattle.clock.proofs.since.Tie as tie
 
-wrapping-sub-u8-requires : tie.Need-wrapping-sub-u8-requires
-wrapping-sub-u8-requires c κs = search needs
-
 returns : tie.Need-returns
 unfolding minus bits
 returns c = search needs
 
 pub since-spec : {M : Type 1} → statement M
-since-spec = tie.close (tie.spec wrapping-sub-u8-requires returns)
+since-spec = tie.close (tie.spec (λ c κs. search needs) returns)

@@ -6,14 +6,8 @@ use Rattle.display.proofs.Starts.{at-the-end, at-the-data}
 use Rattle.display.proofs.start.Statement.{statement}
 use Rattle.display.proofs.start.Tie as tie
 
-is-shown-requires : tie.Need-is-shown-requires
-is-shown-requires c κs = search needs
-
 returns : tie.Need-returns
 returns c = let i = c .before .is-shown in at-the-end _ _ (sym (i .ensures) ∙ not-true (i .result) (c .if1 .taken))
-
-data-start-requires : tie.Need-data-start-requires
-data-start-requires c κs = search needs
 
 returns-2 : tie.Need-returns-2
 returns-2 c =
@@ -21,4 +15,4 @@ returns-2 c =
     rw (c .data-start .ensures) (at-the-data _ _ (sym (i .ensures) ∙ not-false (i .result) (c .before .if1 .left)))
 
 pub start-spec : {M : Type 1} → statement M
-start-spec = tie.close (tie.spec is-shown-requires returns data-start-requires returns-2)
+start-spec = tie.close (tie.spec (λ c κs. search needs) returns (λ c κs. search needs) returns-2)

@@ -8,9 +8,6 @@ use Rattle.questions.proofs.control_questions.Tie as tie
 returns : tie.Need-returns
 returns c = no _ _ _ refl (c .if1 .taken)
 
-value-fits-requires : tie.Need-value-fits-requires
-value-fits-requires c κs = search needs
-
 returns-2 : tie.Need-returns-2
 returns-2 c = let v = c .before in
     yes _ _ _ refl (v .before .if1 .left) (no _ _ _ (v .value-fits .ensures) (c .if2 .taken))
@@ -21,4 +18,4 @@ returns-3 c = let v = c .before in
 
 pub control-questions-spec : {M : Type 1} → statement M
 control-questions-spec =
-    tie.close (tie.spec returns value-fits-requires returns-2 returns-3)
+    tie.close (tie.spec returns (λ c κs. search needs) returns-2 returns-3)

@@ -4,12 +4,9 @@ use Rattle.rules.specs.Questions.{full}
 use Rattle.questions.proofs.store_full.Statement.{statement}
 use Rattle.questions.proofs.store_full.Tie as tie
 
-both-requires : tie.Need-both-requires
-both-requires c κs = search needs
-
 returns : tie.Need-returns
 unfolding full
 returns c = c .both .ensures
 
 pub store-full-spec : {M : Type 1} → statement M
-store-full-spec = tie.close (tie.spec both-requires returns)
+store-full-spec = tie.close (tie.spec (λ c κs. search needs) returns)

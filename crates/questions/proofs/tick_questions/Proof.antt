@@ -4,9 +4,6 @@ use Rattle.questions.proofs.Answers.{no, yes, accepted}
 use Rattle.questions.proofs.tick_questions.Statement.{statement}
 use Rattle.questions.proofs.tick_questions.Tie as tie
 
-both-requires : tie.Need-both-requires
-both-requires c κs = search needs
-
 returns : tie.Need-returns
 returns c = no _ _ _ (c .before .both .ensures) (c .if1 .taken)
 
@@ -14,4 +11,4 @@ returns-2 : tie.Need-returns-2
 returns-2 c = yes _ _ _ (c .before .both .ensures) (c .if1 .left) accepted
 
 pub tick-questions-spec : {M : Type 1} → statement M
-tick-questions-spec = tie.close (tie.spec both-requires returns returns-2)
+tick-questions-spec = tie.close (tie.spec (λ c κs. search needs) returns returns-2)

@@ -43,7 +43,6 @@ is-blank-spec =
     (λ c. refl)
     (λ c. search needs)
     returns
-    (λ c. search needs)
-    (λ c. search needs)
+    (λ c. search needs) (λ c. search needs)
     loop-again
     returns-2)

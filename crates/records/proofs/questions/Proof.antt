@@ -31,10 +31,7 @@ questions-spec =
     tie.close
     (tie.spec
     returns
-    (λ c. search needs)
-    (λ c κs. search needs)
-    (λ c κs. search needs)
-    (λ c κs. search needs)
+    (λ c. search needs) (λ c κs. search needs) (λ c κs. search needs) (λ c κs. search needs)
     returns-2
     returns-3
     returns-4

@@ -27,9 +27,7 @@ pub router-control-spec : {M : Type 1} → statement M
 router-control-spec =
     tie.close
     (tie.spec
-    (λ c κs. search needs)
-    (λ c κs. search needs)
-    (λ c. search needs)
+    (λ c κs. search needs) (λ c κs. search needs) (λ c. search needs)
     returns
     write-register-requires
     (λ c. search needs)

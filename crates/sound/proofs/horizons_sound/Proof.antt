@@ -31,10 +31,8 @@ horizons-sound-spec =
     Inv-loop
     μ-loop
     (λ c. passed-none _ _)
-    (λ c. search needs)
-    (λ c κs. search needs)
+    (λ c. search needs) (λ c κs. search needs)
     returns
-    (λ c. search needs)
-    (λ c. search needs)
+    (λ c. search needs) (λ c. search needs)
     loop-again
     returns-2)

@@ -14,7 +14,5 @@ pub offset-sound-spec : {M : Type 1} → statement M
 offset-sound-spec =
     tie.close
     (tie.spec
-    (λ c κs. search needs)
-    (λ c κs. search needs)
-    (λ c. search needs)
+    (λ c κs. search needs) (λ c κs. search needs) (λ c. search needs)
     returns)

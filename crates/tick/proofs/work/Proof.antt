@@ -24,9 +24,6 @@ work-spec =
     (tie.spec
     (λ c κs. search needs)
     serve-and-settle-requires
-    (λ c κs. search needs)
-    (λ c. search needs)
-    (λ c. search needs)
-    (λ c. search needs)
+    (λ c κs. search needs) (λ c. search needs) (λ c. search needs) (λ c. search needs)
     (λ c. search needs)
     returns)

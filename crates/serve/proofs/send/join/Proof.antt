@@ -8,21 +8,9 @@ use borrow.Author.Needs.{needs}
 use Rattle.serve.proofs.send.join.Statement.{statement}
 use Rattle.serve.proofs.send.join.Tie as tie
 
-cast-i : tie.Need-cast-i
-cast-i c = search needs
-
-element-copy-out-sent : tie.Need-element-copy-out-sent
-element-copy-out-sent c = search needs
-
-shl-sent : tie.Need-shl-sent
-shl-sent c = search needs
-
 add-sent : tie.Need-add-sent
 add-sent c = let p = c .before .before .pre in
     record { fits = omega (arith, bit-le _ (p .0), bit-shifted _ (p .0), p .1) }
-
-element-write-sent : tie.Need-element-write-sent
-element-write-sent c = search needs
 
 returns : tie.Need-returns
 returns c = let c₂ = c .before .before in
@@ -32,4 +20,5 @@ returns c = let c₂ = c .before .before in
 
 pub join-spec : {M : Type 1} → statement M
 join-spec =
-    tie.close (tie.spec cast-i element-copy-out-sent shl-sent add-sent element-write-sent returns)
+    tie.close
+    (tie.spec (λ c. search needs) (λ c. search needs) (λ c. search needs) add-sent (λ c. search needs) returns)

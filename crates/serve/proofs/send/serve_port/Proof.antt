@@ -50,10 +50,7 @@ pub serve-port-spec : {M : Type 1} → statement M
 serve-port-spec =
     tie.close
     (tie.spec
-    (λ c κs. search needs)
-    (λ c. search needs)
-    (λ c. search needs)
-    (λ c κs. search needs)
+    (λ c κs. search needs) (λ c. search needs) (λ c. search needs) (λ c κs. search needs)
     join-requires
     (λ c. search needs)
     returns
