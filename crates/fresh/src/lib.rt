@@ -8,9 +8,11 @@ ghost use Rattle.passes.specs.Stores.{store};
 ghost use Rattle.layout.specs.Slots.{empty};
 ghost use Rattle.fresh.specs.Slots.{emptied};
 use layout::ClockReading;
+use layout::Field;
 use layout::Refusal;
 use layout::Router;
 use layout::Slot;
+use layout::SlotAddress;
 
 // Copies the slots of a fresh router, each to its place from its time on.
 fn put_slots(state: &mut [u8], slots: [Slot; Router::SLOTS])
@@ -21,7 +23,8 @@ fn put_slots(state: &mut [u8], slots: [Slot; Router::SLOTS])
     while i < Router::SLOTS {
         let slot = slots[i];
         let bytes = slot.0;
-        layout::copy_in(&bytes, state, 268 + 3 * i);
+        let at = layout::place(Field::Time(SlotAddress(i as u8)));
+        layout::copy_in(&bytes, state, at);
         i += 1;
     }
 }

@@ -120,7 +120,8 @@ fn third(first: usize, i: u8) -> usize
     first + 3 * (i as usize)
 }
 
-fn place(f: Field) -> usize
+// Where a field starts in the state.
+pub fn place(f: Field) -> usize
     ensures { λ r. ⌜ r ≡ table8 (fieldOf f) .0 ⌝ }
 {
     match f {

@@ -28,16 +28,17 @@ unfolding emptied
 loop-holds c = (search needs, c .before .pre .0, refl)
 
 slice-aggregate-copy-in : tie.Need-slice-aggregate-copy-in Inv-loop μ-loop
-slice-aggregate-copy-in c = rw (slot-empty (c .before .before .before))
+slice-aggregate-copy-in c = rw (slot-empty (c .before .before .before .before))
 
 copy-in-requires : tie.Need-copy-in-requires Inv-loop μ-loop
-copy-in-requires c κs = rw (slot-empty (c .before .before .before .before)) (omega arith)
+copy-in-requires c κs = rw (c .before .before .place .ensures, slot-empty (c .before .before .before .before .before)) (omega arith)
 
 loop-again : tie.Need-loop-again Inv-loop μ-loop
 unfolding emptied
-loop-again c = let t = c .before .before .before .before .before .before .before in
+loop-again c = let p = c .before .before .before .before .before in
+    let t = p .before .before .before in
     let l = t .before .loop in
-    (search needs, search needs, rw (add-one (l .i), ← l .inv .2) (c .before .before .copy-in .ensures ∙ rw (slot-empty t)))
+    (search needs, search needs, rw (add-one (l .i), ← l .inv .2) (c .before .before .copy-in .ensures ∙ rw (p .place .ensures, slot-empty t)))
 
 returns : tie.Need-returns Inv-loop μ-loop
 returns c = let e : c .before .loop .i ≡ 256 = omega arith in rw (← e) (c .before .loop .inv .2)
@@ -49,9 +50,8 @@ put-slots-spec =
     Inv-loop
     μ-loop
     loop-holds
-    (λ c. search needs) (λ c. search needs)
+    (λ c. search needs) (λ c. search needs) (λ c. search needs) (λ c κs. search needs)
     slice-aggregate-copy-in
-    (λ c. search needs) (λ c. search needs)
     copy-in-requires
     (λ c. search needs) (λ c. search needs)
     loop-again
