@@ -1,4 +1,4 @@
--- A test that a list of calls is proper, so that demand 3 speaks of it. Assumes nothing.
+-- A test that a list of calls is proper, so that demand 3 speaks of it: each thing asked of a call is a test that can be computed. Assumes nothing.
 use Prim.Native.Nat.{ℕ, zero, suc, _^_, _<_}
 use mathlib.Core.Path.{_≡_, sym}
 use mathlib.Core.Bool.{Bool, true, false, not, _&&_, _||_, true≢false}

@@ -1,4 +1,4 @@
--- Five grants filled in one after the other. Assumes nothing.
+-- Five grants filled in one after the other: the grant stored for a port leaves those of the ports below. Assumes nothing.
 use Prim.Native.Nat.{ℕ, suc, _<_}
 use mathlib.Core.Path.{_≡_, _∙_}
 use mathlib.Core.List.{List}

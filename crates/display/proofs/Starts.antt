@@ -1,4 +1,4 @@
--- What the display software sees of a port, and where it starts. Assumes nothing.
+-- What the display software sees of a port, and where it starts: past the two bytes of the header. Assumes nothing.
 use Prim.Native.Nat.{ℕ, _+_, _-_, _*_, _≤_}
 use mathlib.Core.Path.{_≡_, refl, sym, ap, _∙_}
 use mathlib.Core.Bool.{Bool, true, false, _&&_}

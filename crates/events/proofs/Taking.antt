@@ -1,4 +1,4 @@
--- A tick whatever its outgoing and answers areas held; the beginning. Assumes nothing.
+-- A tick whatever its outgoing and answers areas held, since only their lengths are looked at; the beginning. Assumes nothing.
 use Prim.Native.Nat.{ℕ}
 use mathlib.Core.Path.{_≡_, refl, ap}
 use mathlib.Core.Bool.{Bool, true, false, cond}

@@ -187,6 +187,7 @@ pub fn put(state: &mut [u8], f: Field, b: u8)
     put_byte(state, place(f), b);
 }
 
+// A byte as two.
 fn wide(b: u8) -> u16
     ensures { λ r. ⌜ (r ≡ b) × (r < 256) ⌝ }
 {

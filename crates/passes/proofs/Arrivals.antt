@@ -1,4 +1,4 @@
--- Step 1 of a tick, arrivals, for any lawful board: questions 6 to 8, a packet placed, and port after port. Assumes nothing.
+-- Step 1 of a tick, arrivals, for any lawful board: the code's reads are those of questions 6 to 8, its stores those of a packet placed, and the ports follow each other. Assumes nothing.
 use Prim.Native.Nat.{ℕ, suc, _+_, _-_, _*_, _<_, _≤_}
 use mathlib.Core.Path.{_≡_, refl, sym, ap, subst, _∙_}
 use mathlib.Core.Bool.{Bool, true, false, cond, not}

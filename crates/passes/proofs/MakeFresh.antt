@@ -1,4 +1,4 @@
--- The outcome of making a fresh router, by its number n, for any board. Assumes nothing.
+-- The outcome of making a fresh router, by its number n, for any board: question 1 is the only one. Assumes nothing.
 use Prim.Native.Nat.{ℕ}
 use mathlib.Core.Path.{_≡_}
 use mathlib.Core.List.{List}

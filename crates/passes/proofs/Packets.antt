@@ -1,4 +1,4 @@
--- Packets in an area, as code cuts them out, stores and sends them, and what the ports give one after the other. Assumes nothing.
+-- Packets in an area, as code cuts them out, stores and sends them: a packet's 20 bytes are its own; and what the ports give one after the other. Assumes nothing.
 use Prim.Native.Nat.{ℕ, suc, _+_, _-_, _*_, _<_, _≤_}
 use mathlib.Core.Path.{_≡_, refl, sym, ap, _∙_}
 use mathlib.Core.List.{List, [], _∷_}

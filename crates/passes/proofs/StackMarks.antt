@@ -1,4 +1,4 @@
--- A pass over the idle-address stack that marks the slots it meets, for any board. Assumes nothing.
+-- A pass over the idle-address stack that marks the slots it meets, for any board: an entry is new just if its slot isn't marked. Assumes nothing.
 use Prim.Native.Nat.{ℕ, suc, _+_, _<_, _≤_}
 use mathlib.Core.Path.{_≡_, refl, sym, ap, _∙_}
 use mathlib.Core.Bool.{Bool, true, false, not, _&&_, _||_}

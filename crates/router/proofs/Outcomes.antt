@@ -1,4 +1,4 @@
--- The outcome of a control write and of a tick, from the number that their questions give: refused, or accepted. Assumes nothing.
+-- The outcome of a control write and of a tick, by cases of the number that their questions give: refused, or accepted. Assumes nothing.
 use Prim.Native.Nat.{ℕ, _≤_}
 use mathlib.Core.Path.{_≡_}
 use mathlib.Core.List.{List}

@@ -1,4 +1,4 @@
--- Stores into byte areas, the packets in them, and numbers as bytes. Assumes nothing.
+-- Stores into byte areas, the packets in them, and numbers as bytes: a store changes its own bytes and no other, and a number is its digits by powers of 256. Assumes nothing.
 use Prim.Native.Nat.{ℕ, zero, suc, _+_, _-_, _*_, _/_, _%_, _^_, _<_, _≤_}
 use mathlib.Core.Path.{_≡_, refl, sym, ap, ap₂, subst, _∙_}
 use mathlib.Core.Logic.{_≢_}

@@ -1,4 +1,4 @@
--- The board of document 01 is lawful. Assumes nothing.
+-- The board of document 01 is lawful: in its table each byte of the state has one owner, and each fresh field its value, by computed tests (TableLaws). Assumes nothing.
 use Prim.Native.Nat.{ℕ, _+_, _-_, _/_, _%_}
 use mathlib.Core.Path.{_≡_, refl}
 use mathlib.Core.Bool.{true, cond}

@@ -1,4 +1,4 @@
--- Tests that hold or fail, and what a test says. Assumes nothing.
+-- Tests that hold or fail, and what a test says, by cases of the test. Assumes nothing.
 use Prim.Native.Nat.{ℕ, suc}
 use mathlib.Core.Path.{_≡_, refl, sym, ap₂, subst}
 use mathlib.Core.Bool.{Bool, true, false, not, _&&_, _||_, Bool·beq, true≢false}

@@ -1,4 +1,4 @@
--- Whom the router that never turns over grants a port, from the packets that wait for it. Assumes nothing.
+-- Whom the router that never turns over grants a port: the winner is the least in a strict order, so that no packet that waits for the port goes before it. Assumes nothing.
 use Prim.Native.Nat.{ℕ, _<_}
 use mathlib.Core.Path.{_≡_, refl, sym}
 use mathlib.Core.Bool.{Bool, true, false, cond, true≢false}

@@ -1,4 +1,4 @@
--- The indices below k: the least of two families of keys in one order, tests of all, and counts. Assumes nothing.
+-- The indices below k: the least of two families of keys in one order, tests of all, and counts; one index after the other. Assumes nothing.
 use Prim.Native.Nat.{ℕ, zero, suc, _+_, _<_, _≤_}
 use mathlib.Core.Path.{_≡_, refl, sym, ap, ap₂, subst, _∙_}
 use mathlib.Core.Bool.{Bool, true, false, cond, not, _&&_, true≢false, and-true, and-false}

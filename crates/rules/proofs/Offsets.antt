@@ -1,4 +1,4 @@
--- The signed reading of a number of b bits, by tests of the number. Assumes nothing.
+-- The signed reading of a number of b bits, by tests of the number: from half a turn on it is below zero, by what is left of the turn. Assumes nothing.
 use Prim.Native.Nat.{ℕ, zero, suc, _+_, _-_, _*_, _/_, _%_, _^_, _<_, _≤_}
 use mathlib.Core.Path.{_≡_, refl, sym, ap, _∙_}
 use mathlib.Core.Bool.{Bool, true, not, Bool·not-not, _&&_, _||_, or-true, or-false}

@@ -1,4 +1,4 @@
--- Orders: what makes one strict, orders by a key and one then another, the least in them, and the comparator's order. Assumes nothing.
+-- Orders: by a key, and one then another, a strict order is made of strict ones, the comparator's too; and nothing goes before the least in a strict order. Assumes nothing.
 use Prim.Native.Nat.{ℕ, zero, suc, _<_}
 use mathlib.Core.Path.{_≡_, refl, sym, ap, subst, _∙_}
 use mathlib.Core.Bool.{Bool, true, false, cond, not, _&&_, _||_, true≢false}

@@ -1,4 +1,4 @@
--- The relation makes the store sound, and a tick keeps it with equal replies. Assumes nothing.
+-- The relation makes the store sound, since a good router's settings and times are in range; and a tick keeps it with equal replies, step by step. Assumes nothing.
 use Prim.Native.Nat.{ℕ, _-_, _/_, _%_, _<_}
 use mathlib.Core.Path.{_≡_, refl, sym, ap, ap₂, _∙_}
 use mathlib.Core.Bool.{true, not}

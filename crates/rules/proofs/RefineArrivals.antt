@@ -1,4 +1,4 @@
--- Step 1: the arrivals meet the same in both routers, and keep the relation. Assumes nothing.
+-- Step 1: the arrivals meet the same in both routers, since an offset is the whole-number difference while that is in the signed range, and the top idle address is the first free place. Assumes nothing.
 use Prim.Native.Nat.{ℕ, zero, suc, _+_, _-_, _*_, _<_, _≤_}
 use mathlib.Core.Path.{_≡_, refl, sym, ap, ap₂, subst, _∙_}
 use mathlib.Core.Bool.{Bool, true, false, cond}

@@ -1,4 +1,4 @@
--- A control write keeps the relation. Assumes nothing.
+-- A control write keeps the relation: each field that it stores reads back as what it puts, and no other changes. Assumes nothing.
 use Prim.Native.Nat.{ℕ, zero, suc, _<_, _≤_}
 use mathlib.Core.Path.{_≡_, refl}
 use mathlib.Core.Bool.{Bool, true, false, cond}

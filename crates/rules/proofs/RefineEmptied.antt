@@ -1,4 +1,4 @@
--- Steps 4 and 5: withdrawal and giving back keep the relation with the router whose places are emptied. Assumes nothing.
+-- Steps 4 and 5 keep the relation with the router whose places are emptied: a deadline reads as the clock just if it is the clock, and slots go back as places do, lowest first. Assumes nothing.
 use Prim.Native.Nat.{ℕ, zero, suc, _+_, _<_, _≤_}
 use mathlib.Core.Path.{_≡_, refl, sym, ap, ap₂, subst, _∙_}
 use mathlib.Core.Bool.{Bool, true, false, cond, not, _&&_, _||_}

@@ -1,4 +1,4 @@
--- Steps 2 and 3: both routers grant each port to the same, and serving keeps the relation. Assumes nothing.
+-- Steps 2 and 3: both routers grant each port to the same, since slots go in the order of the packets that they show (Comparator), and serving keeps the relation. Assumes nothing.
 use Prim.Native.Nat.{ℕ, zero, suc, _<_, _≤_}
 use mathlib.Core.Path.{_≡_, refl, sym, ap, ap₂, subst, _∙_}
 use mathlib.Core.Bool.{Bool, true, false, cond}

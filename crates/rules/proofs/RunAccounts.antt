@@ -1,4 +1,4 @@
--- The accounts of a run: what its ticks send and withdraw, counted over them; each accepted packet is one by its tick and port of arrival. Assumes nothing.
+-- The accounts of a run, by induction over it: what its ticks send and withdraw is what they accepted or found; each accepted packet is one by its tick and port of arrival. Assumes nothing.
 use Prim.Native.Nat.{ℕ, zero, suc, _+_, _<_, _≤_}
 use mathlib.Core.Path.{_≡_, refl, sym, ap, ap₂, subst, _∙_}
 use mathlib.Core.Bool.{Bool, true, false, cond, _&&_, true≢false, and-true, and-false}

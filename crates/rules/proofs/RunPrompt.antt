@@ -1,4 +1,4 @@
--- The rest of the accounts: each stored packet has its place to itself, no port idles and no arrival is refused without its reason. Assumes nothing.
+-- The rest of the accounts: what waits by the accounts stands in a place, and there the grant is the least; so no port idles and no arrival is refused without its reason. Assumes nothing.
 use Prim.Native.Nat.{ℕ, zero, suc, _+_, _<_, _≤_}
 use mathlib.Core.Path.{_≡_, refl, sym, ap, subst, _∙_}
 use mathlib.Core.Bool.{Bool, true, false, cond, not, _&&_}

@@ -1,4 +1,4 @@
--- A packet's times cut to clock readings, against its whole-number times. Assumes nothing.
+-- A packet's times cut to clock readings, against its whole-number times: they lie within half a turn of the clock, where a difference of cut times is the difference. Assumes nothing.
 use Prim.Native.Nat.{ℕ, suc, _+_, _*_, _%_, _^_, _<_, _-_}
 use mathlib.Core.Path.{_≡_, refl, sym, ap, subst, _∙_}
 use mathlib.Core.Bool.{Bool, true, false, _&&_}

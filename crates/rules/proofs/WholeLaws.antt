@@ -1,4 +1,4 @@
--- The steps of the router that never turns over: what holds through each, and that no place is lost. Assumes nothing.
+-- The steps of the router that never turns over: what holds of every packet through each, place by place, and that no place is lost. Assumes nothing.
 use Prim.Native.Nat.{ℕ, zero, suc, _+_, _<_, _≤_}
 use mathlib.Core.Path.{_≡_, refl, sym, ap, subst, _∙_}
 use mathlib.Core.Bool.{Bool, true, false, cond, not, _||_, true≢false, _&&_}

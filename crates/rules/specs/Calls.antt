@@ -1,4 +1,4 @@
--- Calls, a list of them run by the router that never turns over, and what is asked of the list (document 01, "The router that never turns over"). Assumes nothing.
+-- Calls and lists of them, a call to the router that never turns over, and what is asked of the list (document 01, "The router that never turns over"). Assumes nothing.
 use Prim.Native.Nat.{ℕ, _^_, _<_}
 use mathlib.Core.Path.{_≡_}
 use mathlib.Core.Bool.{true, cond}

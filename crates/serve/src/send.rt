@@ -21,6 +21,7 @@ const BEST_EFFORT: u8 = 2;
 
 const EARLY: u8 = 3;
 
+// The answer of a port that has this grant.
 fn code(g: Grant) -> u8
     ensures { λ r. ⌜ r ≡ Areas.grantCode (grantOf g) ⌝ }
 {

@@ -1,4 +1,4 @@
--- The six steps of a tick, from what their parts leave and answer. Assumes nothing.
+-- The six steps of a tick: what their parts leave and answer is, put together, what `ticked` says. Assumes nothing.
 use Prim.Native.Nat.{ℕ}
 use mathlib.Core.Path.{_≡_}
 use mathlib.Core.List.{List, [], _∷_}
