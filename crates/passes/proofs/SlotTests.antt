@@ -1,4 +1,4 @@
--- The test of one slot by what it reads, for any board: the tests made so far decide it, whatever isn't read yet. Assumes nothing.
+-- The test of one slot by what it reads, for any board: the reads are the values of its fields, so the code's tests are those of the definition. Assumes nothing.
 use Prim.Native.Nat.{ℕ, _-_}
 use mathlib.Core.Path.{_≡_, _∙_}
 use mathlib.Core.Bool.{Bool, _&&_, _||_, and-assoc}
