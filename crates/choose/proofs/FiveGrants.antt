@@ -6,16 +6,15 @@ use native.Mathlib.Decide.{ℕ-discrete}
 use native.Mathlib.Omega.{arith}
 use lib.ListN.{length-set, set}
 use lib.Seq.{getD-set-same, getD-set-other}
-use Rattle.rules.specs.Board.{board8}
-use Rattle.rules.specs.Tick.{grant}
+use Rattle.rules.specs.Areas as Areas
 use Rattle.choose.specs.declared.Grant.{Grant}
 use Rattle.choose.specs.declared.Grant.the-variants.{Nobody}
 use Rattle.choose.specs.Grants.{grantOf, grantAt, Granted}
 
 -- Port p's stored.
-pub granted-next : (s : List ℕ) (waiting p : ℕ) → p < 5 → (l : List Grant) → Granted s waiting p l → (g : Grant) → grantOf g ≡ grant board8 s waiting p → Granted s waiting (suc p) (set l p g)
-granted-next s waiting p h l G g e = record { five = length-set l p g ∙ G .five; each = λ q k. go q k (ℕ-discrete q p) }
+pub granted-next : (f : ℕ → Areas.Grant ℕ) (p : ℕ) → p < 5 → (l : List Grant) → Granted f p l → (g : Grant) → grantOf g ≡ f p → Granted f (suc p) (set l p g)
+granted-next f p h l G g e = record { five = length-set l p g ∙ G .five; each = λ q k. go q k (ℕ-discrete q p) }
   where
-    go : (q : ℕ) → q < suc p → Dec (q ≡ p) → grantAt (set l p g) q ≡ grant board8 s waiting q
+    go : (q : ℕ) → q < suc p → Dec (q ≡ p) → grantAt (set l p g) q ≡ f q
     go q k (yes i) = let n = G .five in rw (i, getD-set-same l p g Nobody (omega arith)) e
     go q k (no i) = rw (getD-set-other l p q g Nobody i) (G .each q (omega arith))

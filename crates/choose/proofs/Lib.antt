@@ -1,1 +1,1 @@
-mod FiveGrants
+pub mod FiveGrants

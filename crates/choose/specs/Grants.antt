@@ -4,8 +4,6 @@ use mathlib.Core.Path.{_≡_}
 use mathlib.Core.List.{List}
 use lib.ListN.{length, getD}
 use Rattle.rules.specs.Areas as Areas
-use Rattle.rules.specs.Board.{board8}
-use Rattle.rules.specs.Tick.{grant}
 use Rattle.choose.specs.declared.Grant.{Grant}
 use Rattle.choose.specs.declared.Grant.the-variants.{Nobody, BestEffort, OnTime, Early}
 
@@ -20,7 +18,7 @@ grantOf (Early s) = Areas.early (s .0)
 abbrev pub grantAt : List Grant → ℕ → Areas.Grant ℕ
 grantAt l p = grantOf (getD l p Nobody)
 
--- Five grants, those of the ports below n as the definition has them.
-pub record Granted (s : List ℕ) (waiting n : ℕ) (l : List Grant) : Type 0 where
+-- Five grants, those of the ports below n as g has them.
+pub record Granted (g : ℕ → Areas.Grant ℕ) (n : ℕ) (l : List Grant) : Type 0 where
   pub five : length l ≡ 5
-  pub each : (p : ℕ) → p < n → grantAt l p ≡ grant board8 s waiting p
+  pub each : (p : ℕ) → p < n → grantAt l p ≡ g p

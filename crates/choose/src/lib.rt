@@ -29,7 +29,7 @@ pub enum Grant {
 }
 
 // A slot's key and address as one number, the on-time ones first.
-fn rank(state: &[u8], t: ClockReading, s: SlotAddress) -> u32
+pub fn rank(state: &[u8], t: ClockReading, s: SlotAddress) -> u32
     requires { ⌜ t .0 ≡ board8 .get (now state) clock ⌝ }
     ensures { λ r. ⌜ r ≡ Ranks.slotRank board8 (now (state .entry)) (s .0) ⌝ }
 {
@@ -141,7 +141,7 @@ fn choose(state: &[u8], waiting: u8, port: u8, best: u32) -> Grant
 // Who has each port, best-effort waiting where the mask says; the slots from `end` on are empty.
 pub fn grants(state: &[u8], end: usize, waiting: u8) -> [Grant; Router::PORTS]
     requires { ⌜ EmptyFrom board8 (now state) end ⌝ }
-    ensures { λ r. ⌜ Granted (now (state .entry)) waiting 5 r ⌝ }
+    ensures { λ r. ⌜ Granted (grant board8 (now (state .entry)) waiting) 5 r ⌝ }
 {
     let bests = scan(state, end);
     let mut grants = [Grant::Nobody; Router::PORTS];

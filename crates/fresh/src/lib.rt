@@ -29,17 +29,6 @@ fn put_slots(state: &mut [u8], slots: [Slot; Router::SLOTS])
     }
 }
 
-// Stores zero in every byte.
-fn clear(area: &mut [u8])
-    ensures { λ _. ⌜ now (area .exit) ≡ replicate (length (now (area .entry))) 0 ⌝ }
-{
-    let mut i = 0;
-    while i < area.len() {
-        area[i] = 0;
-        i += 1;
-    }
-}
-
 // Makes state and memory those of a fresh router.
 pub fn make_fresh(state: &mut [u8], memory: &mut [u8], clock: u8) -> u8
     ensures { λ r. ⌜ _≡_ {A = Outcome Store}
@@ -57,6 +46,6 @@ pub fn make_fresh(state: &mut [u8], memory: &mut [u8], clock: u8) -> u8
     let slots = router.slots;
     layout::copy_in(&bytes, state, 0);
     put_slots(state, slots);
-    clear(memory);
+    layout::clear(memory);
     Refusal::Accepted.number()
 }

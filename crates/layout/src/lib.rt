@@ -81,6 +81,7 @@ pub enum Refusal {
     Masks,
     Register,
     Value,
+    Queues,
 }
 
 impl Refusal {
@@ -94,6 +95,7 @@ impl Refusal {
             Refusal::Masks => 3,
             Refusal::Register => 4,
             Refusal::Value => 5,
+            Refusal::Queues => 21,
         }
     }
 }
@@ -166,6 +168,17 @@ pub fn copy_in(src: &[u8], dst: &mut [u8], at: usize)
     }
 }
 
+// Stores zero in every byte.
+pub fn clear(area: &mut [u8])
+    ensures { λ _. ⌜ now (area .exit) ≡ replicate (length (now (area .entry))) 0 ⌝ }
+{
+    let mut i = 0;
+    while i < area.len() {
+        area[i] = 0;
+        i += 1;
+    }
+}
+
 pub fn get(state: &[u8], f: Field) -> u8
     ensures { λ r. ⌜ r ≡ board8 .get (now (state .entry)) (fieldOf f) ⌝ }
 {
@@ -188,7 +201,7 @@ pub fn put(state: &mut [u8], f: Field, b: u8)
 }
 
 // A byte as two.
-fn wide(b: u8) -> u16
+pub fn wide(b: u8) -> u16
     ensures { λ r. ⌜ (r ≡ b) × (r < 256) ⌝ }
 {
     b as u16

@@ -1,16 +1,18 @@
--- What a call's questions come to by the answers that the code has, and what question 1 gives once it is passed. Assumes nothing.
-use Prim.Native.Nat.{ℕ}
+-- What a call's questions come to by the answers that the code has, and what those give that are passed: the lengths, and a register that is known. Assumes nothing.
+use Prim.Native.Nat.{ℕ, _≤_}
 use mathlib.Core.Path.{_≡_, refl, sym, _∙_}
 use mathlib.Core.Bool.{Bool, true, false, not, _&&_}
 use mathlib.Core.List.{List, [], _∷_}
+use mathlib.Core.Logic.{_≢_}
+use native.Mathlib.Omega.{arith}
 use lib.ListN.{length}
-use lib.Dec.{eqb}
-use borrow.Author.Tests.{eqb-true, not-true, not-false}
+use lib.Dec.{eqb, leb}
+use borrow.Author.Tests.{eqb-true, leb-true, not-true, not-false}
 use Rattle.rules.specs.Areas.{Store, memoryLength, arrivalsLength, outgoingLength, answersLength, areasFull, asked}
 use Rattle.rules.specs.Board.{board8}
-use Rattle.rules.specs.Questions.{full}
+use Rattle.rules.specs.Questions.{full, sound, controlRefusal}
 use Rattle.passes.specs.Room.{Room, Lent}
-use Rattle.rules.proofs.Booleans.{and-left, and-right}
+use Rattle.rules.proofs.Booleans.{and-left, and-right, asked-passed}
 
 -- ---- the next question of a call, whose answer the code has as `test`
 
@@ -34,6 +36,29 @@ accepted = refl
 pub passed : {a test : Bool} → test ≡ a → not test ≡ false → a ≡ true
 passed {test = test} answer h = sym answer ∙ not-false test h
 
+-- ---- questions after those of the store
+
+module _ (f s : Bool) (qs : List (Bool × ℕ)) {n : ℕ} (e : n ≡ asked ((f, 1) ∷ (s, 2) ∷ [])) where
+  -- One of these is not passed, so its number stands.
+  pub store-refused : n ≢ 0 → n ≡ asked ((f, 1) ∷ (s, 2) ∷ qs)
+  unfolding asked
+  store-refused h = go f s e
+    where
+      go : (f s : Bool) → n ≡ asked ((f, 1) ∷ (s, 2) ∷ []) → n ≡ asked ((f, 1) ∷ (s, 2) ∷ qs)
+      go true true e = absurd (h e)
+      go true false e = e
+      go false s e = e
+
+  -- They are passed, so the others decide.
+  pub store-passed : n ≡ 0 → {m : ℕ} → m ≡ asked qs → m ≡ asked ((f, 1) ∷ (s, 2) ∷ qs)
+  unfolding asked
+  store-passed z {m} q = go f s e
+    where
+      go : (f s : Bool) → n ≡ asked ((f, 1) ∷ (s, 2) ∷ []) → m ≡ asked ((f, 1) ∷ (s, 2) ∷ qs)
+      go true true e = q
+      go true false e = absurd (omega arith)
+      go false s e = absurd (omega arith)
+
 -- ---- question 1, passed
 
 pub full-lengths : (r : Store) → full board8 r ≡ true → (length (r .state) ≡ board8 .stateLength) × (length (r .memory) ≡ memoryLength)
@@ -54,3 +79,18 @@ all-lent s m area out ans e room =
     let areas = and-right f (a && o && n) e in
     let packets = and-left (a && o) n areas in
     (store .0, store .1, eqb-true _ _ (and-left a o packets), eqb-true _ _ (and-right a o packets), eqb-true _ _ (and-right (a && o) n areas), room)
+
+-- ---- an accepted control write
+
+-- Its state has its length.
+pub control-sized : (r : Store) (register v : ℕ) → controlRefusal board8 r register v ≡ 0 → length (r .state) ≡ board8 .stateLength
+unfolding controlRefusal
+control-sized r register v e = full-lengths r (asked-passed (full board8 r) 0 _ e .0) .0
+
+-- Its register is known.
+pub known : (r : Store) (register v : ℕ) → controlRefusal board8 r register v ≡ 0 → register ≤ 5
+unfolding controlRefusal
+known r register v e =
+    let after-lengths = asked-passed (full board8 r) 0 _ e .1 in
+    let after-soundness = asked-passed (sound board8 r) 1 _ after-lengths .1 in
+    leb-true register 5 (asked-passed (leb register 5) 3 _ after-soundness .0)

@@ -1,9 +1,10 @@
 // The questions of a control write and of a tick, in their order.
 ghost use mathlib.Core.Path.{_≡_};
 ghost use mathlib.Core.Bool.{_&&_};
+ghost use mathlib.Core.List.{[], _∷_};
 ghost use Rattle.rules.specs.Areas.{areasFull, asked, controlQuestions, tickQuestions};
 ghost use Rattle.rules.specs.Board.{board8};
-ghost use Rattle.rules.specs.Questions.{full, controlRefusal, tickRefusal};
+ghost use Rattle.rules.specs.Questions.{full, sound, controlRefusal, tickRefusal};
 ghost use Rattle.passes.specs.Room.{Lent};
 ghost use Rattle.layout.specs.Numbers.{numberOf};
 use layout::Refusal;
@@ -59,15 +60,26 @@ fn tick_questions(arriving: u8, waiting: u8) -> Refusal
     Refusal::Accepted
 }
 
-// The questions of a control write.
-pub fn of_control(state: &[u8], memory: &[u8], register: u8, value: u8) -> Refusal
-    ensures { λ r. ⌜ numberOf r ≡ controlRefusal board8 (record { state = now (state .entry); memory = now (memory .entry) }) register value ⌝ }
+// 1 and 2: do state and memory have their lengths, and are they sound?
+pub fn of_store(state: &[u8], memory: &[u8]) -> Refusal
+    ensures { λ r. ⌜ numberOf r ≡ asked ((full board8 (record { state = now (state .entry); memory = now (memory .entry) }), 1) ∷ (sound board8 (record { state = now (state .entry); memory = now (memory .entry) }), 2) ∷ []) ⌝ }
 {
     if !store_full(state, memory) {
         return Refusal::Lengths;
     }
     if !sound::is_sound(state, memory) {
         return Refusal::Unsound;
+    }
+    Refusal::Accepted
+}
+
+// The questions of a control write.
+pub fn of_control(state: &[u8], memory: &[u8], register: u8, value: u8) -> Refusal
+    ensures { λ r. ⌜ numberOf r ≡ controlRefusal board8 (record { state = now (state .entry); memory = now (memory .entry) }) register value ⌝ }
+{
+    let refusal = of_store(state, memory);
+    if refusal.number() != 0 {
+        return refusal;
     }
     control_questions(register, value)
 }

@@ -2,6 +2,8 @@
 -- The measure is how many ports are left. Assumes nothing.
 use Rattle.choose.proofs.FiveGrants.{granted-next}
 use Rattle.choose.specs.Grants.{Granted}
+use Rattle.rules.specs.Board.{board8}
+use Rattle.rules.specs.Tick.{grant}
 use native.Mathlib.Numerals.{add-one}
 use mathlib.Core.Path.{_≡_, refl}
 use Prim.Native.Nat.{_-_, _≤_}
@@ -11,7 +13,7 @@ use Rattle.choose.proofs.grants.Statement.{statement}
 use Rattle.choose.proofs.grants.Tie as tie
 
 abbrev Inv-loop : tie.InvT-loop
-Inv-loop state end waiting bests grants₀ p₀ grants p = (p ≤ 5) × Granted state waiting p grants
+Inv-loop state end waiting bests grants₀ p₀ grants p = (p ≤ 5) × Granted (grant board8 state waiting) p grants
 
 abbrev μ-loop : tie.MeasureT-loop
 μ-loop state end waiting bests grants₀ p₀ grants p = 5 - p
@@ -24,7 +26,7 @@ choose-requires c κs = (search needs, c .before .before .scan .ensures .each _ 
 
 loop-again : tie.Need-loop-again Inv-loop μ-loop
 loop-again c = let l = c .before .before .loop in
-    (search needs, rw (add-one (l .p)) (granted-next _ _ _ (omega arith) _ (l .inv .1) _ (c .choose .ensures)))
+    (search needs, rw (add-one (l .p)) (granted-next _ _ (omega arith) _ (l .inv .1) _ (c .choose .ensures)))
 
 returns : tie.Need-returns Inv-loop μ-loop
 returns c = let l = c .before .loop in

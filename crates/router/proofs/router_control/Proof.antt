@@ -3,7 +3,8 @@
 use borrow.Author.Needs.{needs}
 use native.Mathlib.Omega.{arith}
 use mathlib.Core.Path.{_≡_, sym, _∙_}
-use Rattle.router.proofs.Outcomes.{known, control-refused, control-accepted}
+use Rattle.questions.proofs.Answers.{known}
+use Rattle.router.proofs.Outcomes.{control-refused, control-accepted}
 use Rattle.router.proofs.router_control.Statement.{statement}
 use Rattle.router.proofs.router_control.Tie as tie
 

@@ -1,4 +1,4 @@
--- `fresh::clear` meets its contract. The loop's invariant: zero below `i`, and the area as it was from `i` on. The measure is what is left of the length.
+-- `layout::clear` meets its contract. The loop's invariant: zero below `i`, and the area as it was from `i` on. The measure is what is left of the length.
 -- Assumes nothing.
 use Prim.Native.Nat.{_≤_, _-_}
 use mathlib.Core.Path.{_≡_, refl, _∙_}
@@ -7,8 +7,8 @@ use native.Mathlib.Omega.{arith}
 use lib.ListN.{length, length-set, replicate, drop, drop-of-length-le}
 use borrow.Author.Fill.{fill-none, fill-more}
 use borrow.Author.Needs.{needs}
-use Rattle.fresh.proofs.clear.Statement.{statement}
-use Rattle.fresh.proofs.clear.Tie as tie
+use Rattle.layout.proofs.clear.Statement.{statement}
+use Rattle.layout.proofs.clear.Tie as tie
 
 abbrev Inv-loop : tie.InvT-loop
 Inv-loop area₀ i₀ area i = (i ≤ length area) × (length area ≡ length area₀) × (area ≡ replicate i 0 ++ drop i area₀)
