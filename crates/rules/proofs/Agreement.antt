@@ -81,16 +81,16 @@ module _ (B : Board) (L : Laws B) where
 
   module _ {r : Store} {w : Router} (R : Rel B L r w) (G : Good c w) where
     -- The first two questions are passed, so the others alone decide.
-    control-number : (register v : ℕ) → controlRefusal B r register v ≡ refusal c w (control register v)
+    pub control-number : (register v : ℕ) → controlRefusal B r register v ≡ refusal c w (control register v)
     unfolding controlRefusal refusal asked
     control-number register v = rw (rel-full B L R G, rel-sound B L R G)
 
-    tick-number : (k : TickCall) (out ans : List ℕ) → tickRefusal B r (k .arriving) (k .bestEffort) (k .arrivals) out ans ≡ refusal c w (tick k out ans)
+    pub tick-number : (k : TickCall) (out ans : List ℕ) → tickRefusal B r (k .arriving) (k .bestEffort) (k .arrivals) out ans ≡ refusal c w (tick k out ans)
     unfolding tickRefusal refusal asked
     tick-number k out ans = rw (rel-full B L R G, rel-sound B L R G)
 
     -- Both questions are passed.
-    control-passed : (register v : ℕ) → refusal c w (control register v) ≡ 0 → (leb register 5 ≡ true) × (fits c register v ≡ true)
+    pub control-passed : (register v : ℕ) → refusal c w (control register v) ≡ 0 → (leb register 5 ≡ true) × (fits c register v ≡ true)
     unfolding refusal
     control-passed register v e = let (p, f) = asked-passed (leb register 5) 3 ((fits c register v, 5) ∷ []) e in (p, asked-passed (fits c register v) 4 [] f .0)
 

@@ -77,7 +77,7 @@ module _ (B : Board) where
 
 module _ (f : ℕ → ℕ) where
   -- What f gives below n is on the list: it is the new one or an older one.
-  elem-at : (a n k : ℕ) → k < n → f k ≡ a → elem a (topFirst f n) ≡ true
+  pub elem-at : (a n k : ℕ) → k < n → f k ≡ a → elem a (topFirst f n) ≡ true
   unfolding elem topFirst
   elem-at a zero k h e = absurd (omega arith)
   elem-at a (suc n) k h e = go (λ l. elem-at a n k l e) (decLt k n)

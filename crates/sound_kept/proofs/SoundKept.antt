@@ -58,7 +58,7 @@ module _ (B : Board) (L : Laws B) where
   abbrev placeOf : Store → ℕ → Option Held
   placeOf r i = cond (eqb (get (r .state) (Mask, i)) 0) none (some (heldOf r i))
 
-  routerOf : Store → Router
+  pub routerOf : Store → Router
   routerOf r =
       let s = r .state in
       record {
@@ -123,7 +123,7 @@ module _ (B : Board) (L : Laws B) where
         go true q = eqb-true (get s (Mask, i)) 0 q
         go false q = slot-shown i l (S .stored i l (eqb-false (get s (Mask, i)) 0 q))
 
-    shows : Rel B L r (routerOf r)
+    pub shows : Rel B L r (routerOf r)
     unfolding routerOf
     shows = record {
       settings = reads-as B L (reads-self B L s sized) (on-settings (get s) (shown c (routerOf r)) (sym (cut-pos (bits c) (get s clock) clock-lt)) (λ p l. refl) (λ q l. refl) (λ i l. (refl, refl, refl)));
@@ -196,7 +196,7 @@ module _ (B : Board) (L : Laws B) where
           all = let u = sound-used B L s e₁ addresses in let n = length-stack B L s in let q = count-same (λ i. isHeld (placeOf r i)) (occupied B s) 256 (λ i l. held-test i) in omega arith;
         }
 
-    good : Good c (routerOf r)
+    pub good : Good c (routerOf r)
     unfolding routerOf
     good = record {
       settings = record {
@@ -213,12 +213,12 @@ module _ (B : Board) (L : Laws B) where
   -- ---- calls keep it
 
   -- The router over bytes sees no true time.
-  fed-bytes : (w : Router) (r : Store) (k : Call) → byteStep B r (fed c w k) ≡ byteStep B r k
+  pub fed-bytes : (w : Router) (r : Store) (k : Call) → byteStep B r (fed c w k) ≡ byteStep B r k
   unfolding byteStep fed
   fed-bytes w r (control register v) = refl
   fed-bytes w r (tick k out ans) = refl
 
-  feed-bytes : (ks : List Call) (w : Router) (r : Store) → afterAll (byteStep B) r (feed c w ks) ≡ afterAll (byteStep B) r ks
+  pub feed-bytes : (ks : List Call) (w : Router) (r : Store) → afterAll (byteStep B) r (feed c w ks) ≡ afterAll (byteStep B) r ks
   unfolding afterAll feed
   feed-bytes [] w r = refl
   feed-bytes (k ∷ ks) w r =

@@ -1,0 +1,10 @@
+pub mod ListLaws
+pub mod BeforeLaws
+pub mod ChoiceLaws
+pub mod QueueLaws
+pub mod EngineLaws
+pub mod HoldLaws
+pub mod ArrivalLaws
+pub mod SendingLaws
+pub mod TickEndLaws
+pub mod QueuesAgree

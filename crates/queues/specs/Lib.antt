@@ -1,0 +1,4 @@
+pub mod Table1
+pub mod Area
+pub mod Engine
+pub mod QueuesAgree
