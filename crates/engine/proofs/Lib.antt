@@ -1,0 +1,2 @@
+mod Headings
+mod Steps

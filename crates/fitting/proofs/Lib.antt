@@ -1,0 +1,2 @@
+mod PackedCounts
+mod FirstOnes

@@ -1,0 +1,2 @@
+pub mod QueueParts
+mod Turns
