@@ -1,10 +1,10 @@
 /*
- * bench.c - runs the router and the plain implementation (gcc -O2 and -O3) through like calls; bench.sh makes the
- * table from it.
+ * bench.c - runs the router, the queue engine and the plain implementations (gcc -O2 and -O3) through like calls;
+ * bench.sh makes the tables from it.
  *   bench count IMPLEMENTATION SCENARIO REPEATS   repeats the call, for an instruction count from outside
  *   bench wall                                    prints nanoseconds per call, the implementations alternating
  *   bench stack                                   prints the bytes of stack that a call writes
- *   bench names                                   prints the scenarios
+ *   bench names router|engine                     prints the scenarios of either
  */
 #define _DEFAULT_SOURCE
 
@@ -16,13 +16,33 @@
 
 #include "router.h"
 
-#define DECLARE(prefix)                                                                                              \
-    uint8_t prefix##_fresh(uint8_t *, size_t, uint8_t *, size_t, uint8_t);                                           \
-    uint8_t prefix##_control(uint8_t *, size_t, const uint8_t *, size_t, uint8_t, uint8_t);                          \
-    uint8_t prefix##_tick(uint8_t *, size_t, uint8_t *, size_t, const uint8_t *, size_t, uint8_t *, size_t,          \
-                          uint8_t *, size_t, uint8_t, uint8_t)
-DECLARE(plain_o2);
-DECLARE(plain_o3);
+/* The forms of the entries. */
+typedef uint8_t fresh_form(uint8_t *, size_t, uint8_t *, size_t, uint8_t);
+typedef uint8_t control_form(uint8_t *, size_t, const uint8_t *, size_t, uint8_t, uint8_t);
+typedef uint8_t tick_form(uint8_t *, size_t, uint8_t *, size_t, const uint8_t *, size_t, uint8_t *, size_t, uint8_t *,
+                          size_t, uint8_t, uint8_t);
+typedef uint8_t queues_fill_form(const uint8_t *, size_t, const uint8_t *, size_t, uint8_t *, size_t);
+typedef uint8_t queues_control_form(uint8_t *, size_t, const uint8_t *, size_t, const uint8_t *, size_t, uint8_t,
+                                    uint8_t);
+typedef uint8_t queues_tick_form(uint8_t *, size_t, uint8_t *, size_t, uint8_t *, size_t, const uint8_t *, size_t,
+                                 uint8_t *, size_t, uint8_t *, size_t, uint8_t, uint8_t);
+
+struct implementation {
+    const char *name;
+    fresh_form *fresh;
+    control_form *control;
+    tick_form *tick;
+    queues_fill_form *queues_fill;
+    queues_control_form *queues_control;
+    queues_tick_form *queues_tick;
+};
+
+fresh_form plain_o2_fresh, plain_o3_fresh;
+control_form plain_o2_control, plain_o3_control;
+tick_form plain_o2_tick, plain_o3_tick;
+queues_fill_form plain_o2_queues_fill, plain_o3_queues_fill;
+queues_control_form plain_o2_queues_control, plain_o3_queues_control;
+queues_tick_form plain_o2_queues_tick, plain_o3_queues_tick;
 
 /* Stands in for an implementation, to measure what the bench itself takes. */
 static uint8_t none_fresh(uint8_t *state, size_t state_len, uint8_t *memory, size_t memory_len, uint8_t clock)
@@ -48,35 +68,76 @@ static uint8_t none_tick(uint8_t *state, size_t state_len, uint8_t *memory, size
     return ROUTER_ACCEPTED;
 }
 
-struct implementation {
-    const char *name;
-    uint8_t (*fresh)(uint8_t *, size_t, uint8_t *, size_t, uint8_t);
-    uint8_t (*control)(uint8_t *, size_t, const uint8_t *, size_t, uint8_t, uint8_t);
-    uint8_t (*tick)(uint8_t *, size_t, uint8_t *, size_t, const uint8_t *, size_t, uint8_t *, size_t,
-                    uint8_t *, size_t, uint8_t, uint8_t);
-};
+static uint8_t none_queues_fill(const uint8_t *state, size_t state_len, const uint8_t *memory, size_t memory_len,
+                                uint8_t *queues, size_t queues_len)
+{
+    (void)state, (void)state_len, (void)memory, (void)memory_len, (void)queues, (void)queues_len;
+    return ROUTER_ACCEPTED;
+}
+
+static uint8_t none_queues_control(uint8_t *state, size_t state_len, const uint8_t *memory, size_t memory_len,
+                                   const uint8_t *queues, size_t queues_len, uint8_t reg, uint8_t value)
+{
+    (void)queues, (void)queues_len;
+    return none_control(state, state_len, memory, memory_len, reg, value);
+}
+
+static uint8_t none_queues_tick(uint8_t *state, size_t state_len, uint8_t *memory, size_t memory_len, uint8_t *queues,
+                                size_t queues_len, const uint8_t *arrivals, size_t arrivals_len, uint8_t *outgoing,
+                                size_t outgoing_len, uint8_t *answers, size_t answers_len, uint8_t arrivals_mask,
+                                uint8_t best_effort_mask)
+{
+    (void)queues, (void)queues_len;
+    return none_tick(state, state_len, memory, memory_len, arrivals, arrivals_len, outgoing, outgoing_len, answers,
+                     answers_len, arrivals_mask, best_effort_mask);
+}
+
+#define ENTRIES_OF(prefix)                                                                                           \
+    prefix##_fresh, prefix##_control, prefix##_tick, prefix##_queues_fill, prefix##_queues_control, prefix##_queues_tick
 
 static const struct implementation implementations[] = {
-    {"none", none_fresh, none_control, none_tick},
-    {"ours", router_fresh, router_control, router_tick},
-    {"O2", plain_o2_fresh, plain_o2_control, plain_o2_tick},
-    {"O3", plain_o3_fresh, plain_o3_control, plain_o3_tick},
+    {"none", ENTRIES_OF(none)},
+    {"ours", ENTRIES_OF(router)},
+    {"O2", ENTRIES_OF(plain_o2)},
+    {"O3", ENTRIES_OF(plain_o3)},
 };
 #define IMPLEMENTATIONS (sizeof implementations / sizeof *implementations)
 
-enum kind { FRESH, CONTROL, IDLE, BUSY };
+enum subject { ROUTER, ENGINE };
+enum kind { FRESH, FILL, CONTROL, IDLE, BUSY };
 
 struct scenario {
     const char *name;
+    enum subject subject;
     enum kind kind;
     unsigned stored; /* packets in memory before the call */
 };
 
-/* A busy tick brings five packets and sends five; with 251 before, 256 are stored when the ports choose. */
+/*
+ * A busy tick brings five packets and sends five; with 251 before, 256 are stored when the ports choose. The engine's
+ * are those of the router, by name, and filling.
+ */
 static const struct scenario scenarios[] = {
-    {"fresh", FRESH, 0},        {"control-0", CONTROL, 0},   {"control-256", CONTROL, 256},
-    {"tick-0-idle", IDLE, 0},   {"tick-64-idle", IDLE, 64},  {"tick-256-idle", IDLE, 256},
-    {"tick-0-busy", BUSY, 0},   {"tick-64-busy", BUSY, 64},  {"tick-251-busy", BUSY, 251},
+    {"fresh", ROUTER, FRESH, 0},
+    {"control-0", ROUTER, CONTROL, 0},
+    {"control-256", ROUTER, CONTROL, 256},
+    {"tick-0-idle", ROUTER, IDLE, 0},
+    {"tick-64-idle", ROUTER, IDLE, 64},
+    {"tick-256-idle", ROUTER, IDLE, 256},
+    {"tick-0-busy", ROUTER, BUSY, 0},
+    {"tick-64-busy", ROUTER, BUSY, 64},
+    {"tick-251-busy", ROUTER, BUSY, 251},
+    {"queues-fill-0", ENGINE, FILL, 0},
+    {"queues-fill-64", ENGINE, FILL, 64},
+    {"queues-fill-256", ENGINE, FILL, 256},
+    {"queues-control-0", ENGINE, CONTROL, 0},
+    {"queues-control-256", ENGINE, CONTROL, 256},
+    {"queues-tick-0-idle", ENGINE, IDLE, 0},
+    {"queues-tick-64-idle", ENGINE, IDLE, 64},
+    {"queues-tick-256-idle", ENGINE, IDLE, 256},
+    {"queues-tick-0-busy", ENGINE, BUSY, 0},
+    {"queues-tick-64-busy", ENGINE, BUSY, 64},
+    {"queues-tick-251-busy", ENGINE, BUSY, 251},
 };
 #define SCENARIOS (sizeof scenarios / sizeof *scenarios)
 
@@ -88,15 +149,16 @@ static const struct scenario scenarios[] = {
 
 static uint8_t state[ROUTER_STATE_LEN], memory[ROUTER_MEMORY_LEN];
 static uint8_t arrivals[ROUTER_ARRIVALS_LEN], outgoing[ROUTER_OUTGOING_LEN], answers[ROUTER_ANSWERS_LEN];
-static uint8_t first_state[ROUTER_STATE_LEN], first_memory[ROUTER_MEMORY_LEN];
+static uint8_t queues[ROUTER_QUEUES_LEN];
+static uint8_t first_state[ROUTER_STATE_LEN], first_memory[ROUTER_MEMORY_LEN], first_queues[ROUTER_QUEUES_LEN];
 
-/* Stores packet s as the next one: early in an idle scenario, by turns early and on time in a busy one. */
+/* Stores packet s as the next one: by turns on time and early in a busy tick and for a fill, early in all others. */
 static void store(enum kind kind, unsigned s)
 {
     uint8_t *slot = first_state + ROUTER_STATE_SLOTS + ROUTER_SLOT_LEN * s;
     uint8_t deadline;
 
-    if (kind == BUSY && s % 2 == 0)
+    if ((kind == BUSY || kind == FILL) && s % 2 == 0)
         deadline = (uint8_t)(CLOCK + 1 + s % LAXITY);
     else
         deadline = (uint8_t)(CLOCK + 1 + s % AHEAD + DELAY);
@@ -123,27 +185,46 @@ static void prepare(const struct scenario *scenario)
         arrivals[ROUTER_PACKET_LEN * p + ROUTER_PACKET_ID] = (uint8_t)(CONNECTION + p);
         arrivals[ROUTER_PACKET_LEN * p + ROUTER_PACKET_TIME] = CLOCK;
     }
+    plain_o2_queues_fill(first_state, sizeof first_state, first_memory, sizeof first_memory, first_queues,
+                         sizeof first_queues);
+}
+
+static void copy_first(const struct scenario *scenario)
+{
+    memcpy(state, first_state, sizeof state);
+    memcpy(memory, first_memory, sizeof memory);
+    if (scenario->subject == ENGINE)
+        memcpy(queues, first_queues, sizeof queues);
 }
 
 static uint8_t call(const struct implementation *router, const struct scenario *scenario)
 {
+    uint8_t arriving = scenario->kind == BUSY ? ROUTER_MASK_MAX : 0;
+
     switch (scenario->kind) {
     case FRESH:
         return router->fresh(state, sizeof state, memory, sizeof memory, CLOCK);
+    case FILL:
+        return router->queues_fill(state, sizeof state, memory, sizeof memory, queues, sizeof queues);
     case CONTROL:
+        if (scenario->subject == ENGINE)
+            return router->queues_control(state, sizeof state, memory, sizeof memory, queues, sizeof queues,
+                                          ROUTER_REG_IN_ID, CONNECTION);
         return router->control(state, sizeof state, memory, sizeof memory, ROUTER_REG_IN_ID, CONNECTION);
     default:
+        if (scenario->subject == ENGINE)
+            return router->queues_tick(state, sizeof state, memory, sizeof memory, queues, sizeof queues, arrivals,
+                                       sizeof arrivals, outgoing, sizeof outgoing, answers, sizeof answers, arriving,
+                                       0);
         return router->tick(state, sizeof state, memory, sizeof memory, arrivals, sizeof arrivals,
-                            outgoing, sizeof outgoing, answers, sizeof answers,
-                            scenario->kind == BUSY ? ROUTER_MASK_MAX : 0, 0);
+                            outgoing, sizeof outgoing, answers, sizeof answers, arriving, 0);
     }
 }
 
 /* One call from the prepared areas; the copying is measured alone with "none" and taken off. */
 static void step(const struct implementation *router, const struct scenario *scenario)
 {
-    memcpy(state, first_state, sizeof state);
-    memcpy(memory, first_memory, sizeof memory);
+    copy_first(scenario);
     if (call(router, scenario) != ROUTER_ACCEPTED) {
         fprintf(stderr, "bench: %s refuses %s\n", router->name, scenario->name);
         exit(EXIT_FAILURE);
@@ -217,8 +298,7 @@ static size_t depth(const struct implementation *router, const struct scenario *
 
     prepare(scenario);
     step(router, scenario);
-    memcpy(state, first_state, sizeof state);
-    memcpy(memory, first_memory, sizeof memory);
+    copy_first(scenario);
     stack_router = router;
     stack_scenario = scenario;
     memset(painted, paint, sizeof painted);
@@ -280,11 +360,13 @@ int main(int argc, char **argv)
         stack();
         return EXIT_SUCCESS;
     }
-    if (argc == 2 && strcmp(argv[1], "names") == 0) {
-        for (unsigned s = 0; s < SCENARIOS; s++)
-            puts(scenarios[s].name);
+    if (argc == 3 && strcmp(argv[1], "names") == 0) {
+        for (unsigned s = 0; s < SCENARIOS; s++) {
+            if (strcmp(argv[2], scenarios[s].subject == ENGINE ? "engine" : "router") == 0)
+                puts(scenarios[s].name);
+        }
         return EXIT_SUCCESS;
     }
-    fprintf(stderr, "usage: bench count IMPLEMENTATION SCENARIO REPEATS | wall | stack | names\n");
+    fprintf(stderr, "usage: bench count IMPLEMENTATION SCENARIO REPEATS | wall | stack | names router|engine\n");
     return EXIT_FAILURE;
 }

@@ -1,7 +1,8 @@
 #!/bin/sh
-# bench.sh - prints one table that sets the router of an archive beside the plain implementation.
-# usage: bench.sh [ARCHIVE|plain]   (without an archive, the router's own, which rt proves and builds; plain: the plain
-# implementation under the router's names); LIBS: more to link. Needs valgrind, which counts the instructions.
+# bench.sh - prints two tables: the router of an archive beside the plain implementation, and the queue engine of
+# another beside the plain one and the router, which is its comparator.
+# usage: bench.sh [ARCHIVE|plain [SERVICE-ARCHIVE|plain]]   (as for run.sh); LIBS: more to link. Needs valgrind, which
+# counts the instructions.
 set -eu
 here=$(cd "$(dirname "$0")" && pwd)
 command -v valgrind > /dev/null || { echo "bench.sh: there is no valgrind" >&2; exit 1; }
@@ -9,14 +10,27 @@ build=$(mktemp -d)
 trap 'rm -rf "$build"' EXIT
 cflags="-std=c99 -Wall -Wextra -Wpedantic -Werror -I$here/../include -I$here"
 libs=${LIBS:-}
+given=${1:-}
+service_given=${2:-}
+[ "$given$service_given" != plain ] || service_given=plain
+router_entries="fresh control tick"
+engine_entries="queues_fill queues_control queues_tick"
 
+# compile LEVEL SOURCE: makes an object of a plain implementation with other names.
+compile() {
+    names=
+    for entry in $router_entries display $engine_entries; do
+        names="$names -Dplain_$entry=plain_o$1_$entry"
+    done
+    gcc $cflags -O$1 -fstack-usage -ffunction-sections $names -c "$here/$2.c" -o "$build/$2_o$1.o"
+}
 for level in 2 3; do
-    gcc $cflags -O$level -fstack-usage -ffunction-sections \
-        -Dplain_fresh=plain_o${level}_fresh -Dplain_control=plain_o${level}_control \
-        -Dplain_tick=plain_o${level}_tick -Dplain_display=plain_o${level}_display -c "$here/plain.c" -o "$build/plain_o$level.o"
+    compile $level plain
+    compile $level plain_queues
 done
-archive=$(sh "$here/archive.sh" "$build" "${1:-}")
-gcc $cflags -O2 "$here/bench.c" "$build/plain_o2.o" "$build/plain_o3.o" "$archive" $libs -Wl,-z,now \
+archive=$(sh "$here/archive.sh" "$build" "$given")
+service=$(sh "$here/archive.sh" "$build" "$service_given" service)
+gcc $cflags -O2 "$here/bench.c" "$build"/plain_o?.o "$build"/plain_queues_o?.o "$service" "$archive" $libs -Wl,-z,now \
     -o "$build/bench"
 
 # total IMPLEMENTATION SCENARIO REPEATS: instructions of a whole run.
@@ -32,35 +46,76 @@ instructions() {
     echo $((($(total "$1" "$2" $many) - $(total "$1" "$2" $few)) / (many - few)))
 }
 
+# count SCENARIO: leaves the instructions of one call of each implementation in ours, o2 and o3.
+count() {
+    none=$(instructions none "$1")
+    ours=$(($(instructions ours "$1") - none))
+    o2=$(($(instructions O2 "$1") - none))
+    o3=$(($(instructions O3 "$1") - none))
+}
+
+ratio() {
+    awk "BEGIN { printf \"%.2f\", $1 / $2 }"
+}
+
 # field FILE IMPLEMENTATION SCENARIO: the figure in that line.
 field() {
     sed -n "s/^$2 $3 //p" "$1"
 }
 
-# code OBJECTS: bytes of program and constants that the three entries bring into a program.
-code() {
+# linked OBJECTS: bytes of program and constants of a program.
+linked() {
     gcc -Wl,--gc-sections -o "$build/linked" "$@" $libs
     size -A "$build/linked" | awk '$1 == ".text" || $1 == ".rodata" { sum += $2 } END { print sum }'
 }
 
-# probe PREFIX: an object that uses the three entries of that name.
-probe() {
-    printf 'int %s_fresh(), %s_control(), %s_tick();\nint main(void) { return %s_fresh() + %s_control() + %s_tick(); }\n' \
-        "$1" "$1" "$1" "$1" "$1" "$1" | gcc -w -O2 -x c -c - -o "$build/probe_$1.o"
+# text FILE: bytes of text of an object or of all in an archive.
+text() {
+    size -t "$1" 2> /dev/null | awk 'END { print $1 }'
+}
+
+# code PREFIX OBJECT ENTRY..: bytes that these entries of that prefix bring into a program.
+code() {
+    prefix=$1
+    object=$2
+    shift 2
+    {
+        printf "int ${prefix}_%s();\n" "$@"
+        printf 'int main(void) { return 0'
+        printf " + ${prefix}_%s()" "$@"
+        echo '; }'
+    } > "$build/probe.c"
+    printf "int ${prefix}_%s() { return 0; }\n" "$@" > "$build/stub.c"
+    gcc -w -O2 -c "$build/probe.c" -o "$build/probe.o"
+    gcc -w -c "$build/stub.c" -o "$build/stub.o"
+    echo $(($(linked "$build/probe.o" "$object") - $(linked "$build/probe.o" "$build/stub.o")))
+}
+
+# sizes ARCHIVE OBJECT ENTRY..: leaves what these entries bring into a program in ours, o2 and o3.
+sizes() {
+    from=$1
+    plain=$2
+    shift 2
+    ours=$(code router "$from" "$@")
+    o2=$(code plain_o2 "$build/${plain}_o2.o" "$@")
+    o3=$(code plain_o3 "$build/${plain}_o3.o" "$@")
+}
+
+# frame OBJECT: the largest of its functions.
+frame() {
+    awk '{ if ($2 > most) most = $2 } END { print most }' "$build/$1.su"
 }
 
 "$build/bench" wall > "$build/wall"
 "$build/bench" stack > "$build/stack"
+: > "$build/counted"
 
 echo "| scenario | router, instructions | plain -O2 | plain -O3 | router / -O2 | router, ns | plain -O2 | plain -O3 | router, stack | plain -O2 | plain -O3 |"
 echo "|---|--:|--:|--:|--:|--:|--:|--:|--:|--:|--:|"
-for scenario in $("$build/bench" names); do
-    none=$(instructions none "$scenario")
-    ours=$(($(instructions ours "$scenario") - none))
-    o2=$(($(instructions O2 "$scenario") - none))
-    o3=$(($(instructions O3 "$scenario") - none))
-    ratio=$(awk "BEGIN { printf \"%.2f\", $ours / $o2 }")
-    printf '| %s | %s | %s | %s | %s |' "$scenario" "$ours" "$o2" "$o3" "$ratio"
+for scenario in $("$build/bench" names router); do
+    count "$scenario"
+    echo "ours $scenario $ours" >> "$build/counted"
+    printf '| %s | %s | %s | %s | %s |' "$scenario" "$ours" "$o2" "$o3" "$(ratio "$ours" "$o2")"
     for what in wall stack; do
         for implementation in ours O2 O3; do
             printf ' %s |' "$(field "$build/$what" $implementation "$scenario")"
@@ -68,20 +123,28 @@ for scenario in $("$build/bench" names); do
     done
     echo
 done
+sizes "$archive" plain $router_entries
+echo "| bytes of code, linked | $ours | $o2 | $o3 | $(ratio "$ours" "$o2") | | | | | | |"
+echo "| bytes of text, archive or object | $(text "$archive") | $(text "$build/plain_o2.o") | $(text "$build/plain_o3.o") | | | | | | | |"
+echo "| largest frame (-fstack-usage) | | $(frame plain_o2) | $(frame plain_o3) | | | | | | | |"
 
-printf 'int stub_fresh() { return 0; }\nint stub_control() { return 0; }\nint stub_tick() { return 0; }\n' |
-    gcc -w -x c -c - -o "$build/stub.o"
-for prefix in stub router plain_o2 plain_o3; do
-    probe $prefix
+echo
+echo "The queue engine beside the comparator, which is the router of the table above:"
+echo
+echo "| scenario | engine, instructions | plain -O2 | plain -O3 | engine / -O2 | comparator | engine / comparator | engine, stack | plain -O2 | plain -O3 | comparator |"
+echo "|---|--:|--:|--:|--:|--:|--:|--:|--:|--:|--:|"
+for scenario in $("$build/bench" names engine); do
+    like=${scenario#queues-}
+    count "$scenario"
+    comparator=$(field "$build/counted" ours "$like")
+    printf '| %s | %s | %s | %s | %s |' "$scenario" "$ours" "$o2" "$o3" "$(ratio "$ours" "$o2")"
+    printf ' %s | %s |' "$comparator" "$([ -z "$comparator" ] || ratio "$ours" "$comparator")"
+    for implementation in ours O2 O3; do
+        printf ' %s |' "$(field "$build/stack" $implementation "$scenario")"
+    done
+    echo " $(field "$build/stack" ours "$like") |"
 done
-base=$(code "$build/probe_stub.o" "$build/stub.o")
-ours=$(($(code "$build/probe_router.o" "$archive") - base))
-o2=$(($(code "$build/probe_plain_o2.o" "$build/plain_o2.o") - base))
-o3=$(($(code "$build/probe_plain_o3.o" "$build/plain_o3.o") - base))
-echo "| bytes of code, linked | $ours | $o2 | $o3 | $(awk "BEGIN { printf \"%.2f\", $ours / $o2 }") | | | | | | |"
-text=$(size -t "$archive" 2>/dev/null | awk 'END { print $1 }')
-echo "| bytes of text, archive or object | $text | $(size "$build/plain_o2.o" | awk 'END { print $1 }') | $(size "$build/plain_o3.o" | awk 'END { print $1 }') | | | | | | | |"
-frame() {
-    awk '{ if ($2 > most) most = $2 } END { print most }' "$build/plain_o$1.su"
-}
-echo "| largest frame (-fstack-usage) | | $(frame 2) | $(frame 3) | | | | | | | |"
+sizes "$service" plain_queues $engine_entries
+echo "| bytes of code, linked | $ours | $o2 | $o3 | $(ratio "$ours" "$o2") | | | | | | |"
+echo "| bytes of text, archive or object | $(text "$service") | $(text "$build/plain_queues_o2.o") | $(text "$build/plain_queues_o3.o") | | | | | | | |"
+echo "| largest frame (-fstack-usage) | | $(frame plain_queues_o2) | $(frame plain_queues_o3) | | | | | | | |"

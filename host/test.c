@@ -2,106 +2,21 @@
  * test.c - compares the router (router_*, from an archive) with the plain implementation, byte for byte over all
  * areas and numbers, and with the router that never turns over; then runs the experiment of document 001, Fig. 10.
  *   test [SEED]
- * Each area lies against inaccessible pages, by turns at its start and at its end, and areas that a call only reads
- * are lent read-only, so that a stray access is seen.
  */
 #define _DEFAULT_SOURCE
 
-#include <inttypes.h>
-#include <setjmp.h>
-#include <signal.h>
-#include <stdarg.h>
 #include <stdio.h>
-#include <stdlib.h>
 #include <string.h>
 #include <sys/mman.h>
-#include <time.h>
-#include <unistd.h>
 
+#include "harness.h"
 #include "plain.h"
 #include "whole.h"
 
-#define DEFAULT_SEED 1
 #define EVOLVING_CALLS 2000000u
 #define MADE_CALLS 800000u
 #define DAMAGED_CALLS 800000u
 #define WHOLE_TICKS 1200000u
-
-/* ---- Random numbers ---- */
-
-static uint64_t seed, random_state;
-
-static uint64_t next_random(void)
-{
-    uint64_t z = random_state += UINT64_C(0x9E3779B97F4A7C15);
-
-    z = (z ^ z >> 30) * UINT64_C(0xBF58476D1CE4E5B9);
-    z = (z ^ z >> 27) * UINT64_C(0x94D049BB133111EB);
-    return z ^ z >> 31;
-}
-
-static unsigned below(unsigned limit)
-{
-    return (unsigned)((next_random() >> 32) * limit >> 32);
-}
-
-static int between(int low, int high)
-{
-    return low + (int)below((unsigned)(high - low + 1));
-}
-
-static int chance(unsigned percent)
-{
-    return below(100) < percent;
-}
-
-static uint8_t random_byte(void)
-{
-    return (uint8_t)below(256);
-}
-
-static void random_bytes(uint8_t *bytes, size_t len)
-{
-    for (size_t i = 0; i < len; i++)
-        bytes[i] = random_byte();
-}
-
-/* ---- Sections: each ends at its end or at its first failure ---- */
-
-static sigjmp_buf section_end;
-static unsigned passed, failed;
-static unsigned long calls; /* of the router under test */
-
-static void fail(const char *format, ...)
-{
-    va_list list;
-
-    printf("     call %lu, seed %" PRIu64 ": ", calls, seed);
-    va_start(list, format);
-    vprintf(format, list);
-    va_end(list);
-    printf("\n");
-    siglongjmp(section_end, 1);
-}
-
-static void section(const char *name, void (*run)(void))
-{
-    clock_t start = clock();
-    unsigned long first = calls;
-    int ok = sigsetjmp(section_end, 1) == 0;
-
-    if (ok) {
-        random_state = seed * 1000 + passed + failed;
-        run();
-    }
-    if (ok)
-        passed++;
-    else
-        failed++;
-    printf("%s %-46s %8lu calls %5.1f s\n", ok ? "ok  " : "FAIL", name, calls - first,
-           (double)(clock() - start) / CLOCKS_PER_SEC);
-    fflush(stdout);
-}
 
 /* ---- What has to occur ---- */
 
@@ -136,170 +51,46 @@ static const char *const event_name[EVENTS] = {
 
 static unsigned long occurred[EVENTS];
 
-static const enum event number_event[3][6] = {
+static const enum event number_event[ENTRIES][6] = {
     {FRESH_0, FRESH_1, EVENTS, EVENTS, EVENTS, EVENTS},
     {CONTROL_0, CONTROL_1, CONTROL_2, EVENTS, CONTROL_4, CONTROL_5},
     {TICK_0, TICK_1, TICK_2, TICK_3, EVENTS, EVENTS},
 };
 
-/* ---- Areas ---- */
+/* ---- The entries ---- */
 
-enum area { STATE, MEMORY, ARRIVALS, OUTGOING, ANSWERS, AREAS };
+#define FRESH MAKE
 
-static const char *const area_name[AREAS] = {"state", "memory", "arrivals", "outgoing", "answers"};
-static const size_t area_len[AREAS] = {
-    ROUTER_STATE_LEN, ROUTER_MEMORY_LEN, ROUTER_ARRIVALS_LEN, ROUTER_OUTGOING_LEN, ROUTER_ANSWERS_LEN,
+const struct entry_form entry_form[ENTRIES] = {
+    {"fresh", STORE, 0},
+    {"control", STORE, SET(MEMORY)},
+    {"tick", STORE | SET(ARRIVALS) | SET(OUTGOING) | SET(ANSWERS), SET(ARRIVALS)},
 };
 
-#define LEN_MAX (2 * ROUTER_MEMORY_LEN) /* of the areas tried; longer ones are lent to calls that may not touch them */
-
-/* The areas of the plain implementation, as they were before the call, and a sound router to come back to. */
-static uint8_t area[AREAS][LEN_MAX], before[AREAS][LEN_MAX], kept[2][LEN_MAX];
-static uint8_t *const state = area[STATE], *const memory = area[MEMORY], *const answers = area[ANSWERS];
-
-/* The room for an area of the router: two views of the same pages, with an inaccessible page at both ends. */
-struct guarded {
-    uint8_t *writable, *readable;
-    const uint8_t *lent; /* where the area of the current call starts */
-};
-static struct guarded guarded[AREAS];
-static size_t page, room; /* the machine's page, and as many whole ones as hold LEN_MAX bytes */
-
-static uint8_t *map_view(int file, int access)
-{
-    uint8_t *all = mmap(NULL, room + 2 * page, PROT_NONE, MAP_PRIVATE | MAP_ANONYMOUS, -1, 0);
-
-    if (all == MAP_FAILED || mmap(all + page, room, access, MAP_SHARED | MAP_FIXED, file, 0) == MAP_FAILED) {
-        perror("mmap");
-        exit(EXIT_FAILURE);
-    }
-    return all + page;
-}
-
-static void map_areas(void)
-{
-    page = (size_t)sysconf(_SC_PAGESIZE);
-    room = (LEN_MAX + page - 1) / page * page;
-    for (unsigned i = 0; i < AREAS; i++) {
-        FILE *file = tmpfile();
-
-        if (file == NULL || ftruncate(fileno(file), (off_t)room) != 0) {
-            perror("tmpfile");
-            exit(EXIT_FAILURE);
-        }
-        guarded[i].writable = map_view(fileno(file), PROT_READ | PROT_WRITE);
-        guarded[i].readable = map_view(fileno(file), PROT_READ);
-        fclose(file);
-    }
-}
-
-/* Says where a stray access went, and ends the section. */
-static void on_fault(int signal, siginfo_t *info, void *context)
-{
-    const uint8_t *at = info->si_addr;
-
-    (void)signal, (void)context;
-    for (unsigned i = 0; i < AREAS; i++) {
-        const uint8_t *view[2] = {guarded[i].writable, guarded[i].readable};
-
-        for (unsigned v = 0; v < 2; v++) {
-            if (at >= view[v] - page && at < view[v] + room + page)
-                fail("stray access to %s at %td%s", area_name[i], at - guarded[i].lent,
-                     v == 1 ? ", which is only to be read" : "");
-        }
-    }
-    fail("stray access outside all areas");
-}
-
-/* ---- A call of both routers ---- */
-
-enum entry { FRESH, CONTROL, TICK };
-static const char *const entry_name[] = {"fresh", "control", "tick"};
-
-struct call {
-    enum entry entry;
-    size_t len[AREAS];
-    uint8_t first, second; /* clock; register and value; arrivals and best-effort mask */
-};
-
-static unsigned areas_lent(enum entry entry)
-{
-    return entry == TICK ? AREAS : 2;
-}
-
-/* Places an area of the router and fills it; it gets the read-only view where the entry only reads. */
-static uint8_t *lend(enum entry entry, enum area i, const uint8_t *bytes, size_t len, int at_end)
-{
-    size_t at = at_end ? room - len : 0;
-    int only_read = i == ARRIVALS || (entry == CONTROL && i == MEMORY);
-    uint8_t *lent = (only_read ? guarded[i].readable : guarded[i].writable) + at;
-
-    memcpy(guarded[i].writable + at, bytes, len);
-    guarded[i].lent = lent;
-    return lent;
-}
-
-static uint8_t call_plain(const struct call *c)
+uint8_t call_plain(const struct call *c, uint8_t *const *at)
 {
     switch (c->entry) {
     case FRESH:
-        return plain_fresh(area[0], c->len[0], area[1], c->len[1], c->first);
+        return plain_fresh(LENT(STATE), LENT(MEMORY), c->first);
     case CONTROL:
-        return plain_control(area[0], c->len[0], area[1], c->len[1], c->first, c->second);
+        return plain_control(LENT(STATE), LENT(MEMORY), c->first, c->second);
     default:
-        return plain_tick(area[0], c->len[0], area[1], c->len[1], area[2], c->len[2], area[3], c->len[3],
-                          area[4], c->len[4], c->first, c->second);
+        return plain_tick(LENT(STATE), LENT(MEMORY), LENT(ARRIVALS), LENT(OUTGOING), LENT(ANSWERS), c->first,
+                          c->second);
     }
 }
 
-static uint8_t call_router(const struct call *c, uint8_t *const *lent)
+uint8_t call_router(const struct call *c, uint8_t *const *at)
 {
-    calls++;
     switch (c->entry) {
     case FRESH:
-        return router_fresh(lent[0], c->len[0], lent[1], c->len[1], c->first);
+        return router_fresh(LENT(STATE), LENT(MEMORY), c->first);
     case CONTROL:
-        return router_control(lent[0], c->len[0], lent[1], c->len[1], c->first, c->second);
+        return router_control(LENT(STATE), LENT(MEMORY), c->first, c->second);
     default:
-        return router_tick(lent[0], c->len[0], lent[1], c->len[1], lent[2], c->len[2], lent[3], c->len[3],
-                           lent[4], c->len[4], c->first, c->second);
+        return router_tick(LENT(STATE), LENT(MEMORY), LENT(ARRIVALS), LENT(OUTGOING), LENT(ANSWERS), c->first,
+                           c->second);
     }
-}
-
-static unsigned free_count(const uint8_t *bytes)
-{
-    return bytes[ROUTER_STATE_FREE] * 256u + bytes[ROUTER_STATE_FREE + 1];
-}
-
-static void set_free_count(unsigned n)
-{
-    state[ROUTER_STATE_FREE] = (uint8_t)(n / 256);
-    state[ROUTER_STATE_FREE + 1] = (uint8_t)(n % 256);
-}
-
-static uint8_t *slot_at(uint8_t *bytes, unsigned s)
-{
-    return bytes + ROUTER_STATE_SLOTS + ROUTER_SLOT_LEN * s;
-}
-
-static uint8_t *entry_at(uint8_t *bytes, unsigned connection)
-{
-    return bytes + ROUTER_STATE_TABLE + ROUTER_ENTRY_LEN * connection;
-}
-
-static uint8_t *stored_at(unsigned s)
-{
-    return memory + ROUTER_PACKET_LEN * s;
-}
-
-static uint8_t *arrival_at(unsigned port)
-{
-    return area[ARRIVALS] + ROUTER_PACKET_LEN * port;
-}
-
-static unsigned withdrawn_at(const uint8_t *bytes, unsigned port)
-{
-    return bytes[ROUTER_ANSWERS_WITHDRAWN + 2 * port] * 256u + bytes[ROUTER_ANSWERS_WITHDRAWN + 2 * port + 1];
 }
 
 static int several(unsigned mask)
@@ -374,59 +165,6 @@ static void count_tick(void)
     occurred[CLOCK_TURN] += t == 255;
 }
 
-static void differs(const struct call *c, enum area i, const uint8_t *got, const uint8_t *expected)
-{
-    size_t at = 0;
-
-    while (got[at] == expected[at])
-        at++;
-    fail("%s (%u, %u): %s byte %zu is %u and should be %u", entry_name[c->entry], c->first, c->second,
-         area_name[i], at, got[at], expected[at]);
-}
-
-/* Calls both routers with the content of `area`, and compares number and areas; returns the number. */
-static uint8_t call_both(const struct call *c)
-{
-    unsigned lent_count = areas_lent(c->entry), ends = below(1u << AREAS);
-    uint8_t *lent[AREAS];
-    uint8_t expected, number;
-
-    for (unsigned i = 0; i < lent_count; i++) {
-        lent[i] = lend(c->entry, i, area[i], c->len[i], ends >> i & 1);
-        memcpy(before[i], area[i], c->len[i]);
-    }
-    expected = call_plain(c);
-    number = call_router(c, lent);
-    if (number != expected)
-        fail("%s (%u, %u): number is %u and should be %u", entry_name[c->entry], c->first, c->second, number,
-             expected);
-    for (unsigned i = 0; i < lent_count; i++) {
-        const uint8_t *should = number == ROUTER_ACCEPTED ? area[i] : before[i];
-
-        if (memcmp(lent[i], should, c->len[i]) != 0)
-            differs(c, i, lent[i], should);
-        if (memcmp(area[i], should, c->len[i]) != 0)
-            fail("the plain implementation changes %s in a refused call", area_name[i]);
-    }
-    if (number > ROUTER_BAD_VALUE || number_event[c->entry][number] == EVENTS)
-        fail("%s returns %u", entry_name[c->entry], number);
-    occurred[number_event[c->entry][number]]++;
-    if (c->entry == TICK && number == ROUTER_ACCEPTED) {
-        count_tick();
-        if (calls % CONTEST_SAMPLE == 0)
-            count_contests();
-    }
-    return number;
-}
-
-static struct call make_call(enum entry entry, unsigned first, unsigned second)
-{
-    struct call c = {entry, {0}, (uint8_t)first, (uint8_t)second};
-
-    memcpy(c.len, area_len, sizeof c.len);
-    return c;
-}
-
 static uint8_t fresh(unsigned clock)
 {
     struct call c = make_call(FRESH, clock, 0);
@@ -434,210 +172,15 @@ static uint8_t fresh(unsigned clock)
     return call_both(&c);
 }
 
-static uint8_t control(unsigned reg, unsigned value)
+void after_call(const struct call *c, uint8_t number)
 {
-    struct call c = make_call(CONTROL, reg, value);
-
-    return call_both(&c);
-}
-
-/* A tick; outgoing and answers have random content before it. */
-static uint8_t tick(unsigned arrivals_mask, unsigned best_effort_mask)
-{
-    struct call c = make_call(TICK, arrivals_mask, best_effort_mask);
-
-    memset(area[OUTGOING], random_byte(), ROUTER_OUTGOING_LEN);
-    memset(answers, random_byte(), ROUTER_ANSWERS_LEN);
-    return call_both(&c);
-}
-
-static void expect(const char *what, unsigned got, unsigned should)
-{
-    if (got != should)
-        fail("%s is %u and should be %u", what, got, should);
-}
-
-static void keep(void)
-{
-    memcpy(kept[STATE], state, ROUTER_STATE_LEN);
-    memcpy(kept[MEMORY], memory, ROUTER_MEMORY_LEN);
-}
-
-static void come_back(void)
-{
-    memcpy(state, kept[STATE], ROUTER_STATE_LEN);
-    memcpy(memory, kept[MEMORY], ROUTER_MEMORY_LEN);
-}
-
-/* ---- Makers of states and packets ---- */
-
-static void open_connection(unsigned in, unsigned out, unsigned d, unsigned mask)
-{
-    expect("outgoing identifier", control(ROUTER_REG_OUT_ID, out), ROUTER_ACCEPTED);
-    expect("delay", control(ROUTER_REG_DELAY, d), ROUTER_ACCEPTED);
-    expect("mask", control(ROUTER_REG_MASK, mask), ROUTER_ACCEPTED);
-    expect("incoming identifier", control(ROUTER_REG_IN_ID, in), ROUTER_ACCEPTED);
-}
-
-static void set_horizons(unsigned ports, unsigned horizon)
-{
-    expect("ports", control(ROUTER_REG_PORTS, ports), ROUTER_ACCEPTED);
-    expect("horizon", control(ROUTER_REG_HORIZON, horizon), ROUTER_ACCEPTED);
-}
-
-/* Puts a packet into the arrivals, its time given by its offset. */
-static void put_arrival(unsigned port, unsigned connection, int offset)
-{
-    uint8_t *packet = arrival_at(port);
-
-    random_bytes(packet, ROUTER_PACKET_LEN);
-    packet[ROUTER_PACKET_ID] = (uint8_t)connection;
-    packet[ROUTER_PACKET_TIME] = (uint8_t)(state[ROUTER_STATE_CLOCK] + offset);
-}
-
-/* Writes a stored packet into slot s. */
-static void put_stored(unsigned s, int offset, unsigned d, unsigned mask)
-{
-    uint8_t *slot = slot_at(state, s);
-
-    slot[ROUTER_SLOT_TIME] = (uint8_t)(state[ROUTER_STATE_CLOCK] + offset);
-    slot[ROUTER_SLOT_DEADLINE] = (uint8_t)(slot[ROUTER_SLOT_TIME] + d);
-    slot[ROUTER_SLOT_MASK] = (uint8_t)mask;
-    stored_at(s)[ROUTER_PACKET_TIME] = slot[ROUTER_SLOT_DEADLINE];
-}
-
-/* A number of low to high, often one of the two. */
-static int edgy(int low, int high)
-{
-    unsigned which = below(8);
-
-    return which == 0 ? low : which == 1 ? high : between(low, high);
-}
-
-/* Makes a random sound state with so many packets; every byte that is free to be anything is random. */
-static void make_sound(unsigned stored)
-{
-    uint8_t order[ROUTER_SLOTS];
-    int spread = edgy(0, 126);
-
-    random_bytes(state, ROUTER_STATE_LEN);
-    random_bytes(memory, ROUTER_MEMORY_LEN);
-    for (unsigned p = 0; p < ROUTER_PORTS; p++)
-        state[ROUTER_STATE_HORIZONS + p] &= ROUTER_HORIZON_MAX;
-    state[ROUTER_STATE_DELAY] &= ROUTER_DELAY_MAX;
-    state[ROUTER_STATE_MASK] &= ROUTER_MASK_MAX;
-    state[ROUTER_STATE_PORTS] &= ROUTER_MASK_MAX;
-    for (unsigned c = 0; c < ROUTER_CONNECTIONS; c++) {
-        entry_at(state, c)[ROUTER_ENTRY_DELAY] &= ROUTER_DELAY_MAX;
-        entry_at(state, c)[ROUTER_ENTRY_MASK] &= ROUTER_MASK_MAX;
-    }
-    for (unsigned s = 0; s < ROUTER_SLOTS; s++) {
-        unsigned other = below(s + 1);
-
-        order[s] = order[other];
-        order[other] = (uint8_t)s;
-    }
-    set_free_count(ROUTER_SLOTS - stored);
-    for (unsigned i = 0; i < ROUTER_SLOTS - stored; i++) {
-        state[ROUTER_STATE_STACK + i] = order[i];
-        slot_at(state, order[i])[ROUTER_SLOT_MASK] = 0;
-    }
-    for (unsigned i = ROUTER_SLOTS - stored; i < ROUTER_SLOTS; i++) {
-        int d = edgy(0, ROUTER_DELAY_MAX);
-        int low = -d > -spread ? -d : -spread;
-
-        put_stored(order[i], chance(5) ? -d : edgy(low, spread), (unsigned)d, 1 + below(ROUTER_MASK_MAX));
-    }
-}
-
-/* How a run of random calls is to look. */
-struct regime {
-    unsigned arrivals, best_effort, controls, odd; /* percent */
-    unsigned connections, delay_max, horizon_max;
-    enum { ANY_VALID, ANY, EDGES, AHEAD, NEAR } offsets;
-    int unicast;
-};
-
-static struct regime random_regime(void)
-{
-    struct regime r;
-
-    r.arrivals = below(2) ? 100 : below(101);
-    r.best_effort = below(3) ? below(101) : 0;
-    r.controls = 1 + below(40);
-    r.odd = below(4);
-    r.connections = below(2) ? 1 + below(8) : 1 + below(256);
-    r.delay_max = below(2) ? ROUTER_DELAY_MAX : below(16);
-    r.horizon_max = below(2) ? ROUTER_HORIZON_MAX : below(8);
-    r.offsets = below(5);
-    r.unicast = chance(40);
-    return r;
-}
-
-static int random_offset(const struct regime *r, int d)
-{
-    const int edge[] = {-128, -d - 1, -d, -d + 1, -1, 0, 1, 2, 126, 127};
-
-    switch (chance((unsigned)r->odd) ? ANY : r->offsets) {
-    case ANY_VALID:
-        return between(-d, 127);
-    case ANY:
-        return between(-128, 127);
-    case EDGES:
-        return edge[below(sizeof edge / sizeof *edge)];
-    case AHEAD:
-        return between(64, 127);
-    default:
-        return between(-d, 8);
-    }
-}
-
-/* Puts a random packet into the arrivals of the router with this state; says its offset. */
-static int random_arrival(const struct regime *r, uint8_t *router, uint8_t *packet)
-{
-    unsigned connection = chance(r->odd) ? random_byte() : below(r->connections);
-    int offset = random_offset(r, entry_at(router, connection)[ROUTER_ENTRY_DELAY]);
-
-    random_bytes(packet, ROUTER_PACKET_LEN);
-    packet[ROUTER_PACKET_ID] = (uint8_t)connection;
-    packet[ROUTER_PACKET_TIME] = (uint8_t)(router[ROUTER_STATE_CLOCK] + offset);
-    return offset;
-}
-
-static uint8_t random_mask(unsigned percent)
-{
-    unsigned mask = 0;
-
-    for (unsigned p = 0; p < ROUTER_PORTS; p++)
-        mask |= (unsigned)chance(percent) << p;
-    return (uint8_t)mask;
-}
-
-static void random_control(const struct regime *r, uint8_t *reg, uint8_t *value)
-{
-    *reg = (uint8_t)(chance(r->odd) ? random_byte() : below(ROUTER_REGISTERS));
-    if (chance(r->odd)) {
-        *value = random_byte();
-        return;
-    }
-    switch (*reg) {
-    case ROUTER_REG_DELAY:
-        *value = (uint8_t)edgy(0, (int)r->delay_max);
-        break;
-    case ROUTER_REG_MASK:
-        *value = (uint8_t)(r->unicast ? 1u << below(ROUTER_PORTS) : below(ROUTER_MASK_MAX + 1));
-        break;
-    case ROUTER_REG_IN_ID:
-        *value = (uint8_t)below(r->connections);
-        break;
-    case ROUTER_REG_PORTS:
-        *value = (uint8_t)below(ROUTER_MASK_MAX + 1);
-        break;
-    case ROUTER_REG_HORIZON:
-        *value = (uint8_t)edgy(0, (int)r->horizon_max);
-        break;
-    default:
-        *value = random_byte();
+    if (number > ROUTER_BAD_VALUE || number_event[c->entry][number] == EVENTS)
+        fail("%s returns %u", entry_form[c->entry].name, number);
+    occurred[number_event[c->entry][number]]++;
+    if (c->entry == TICK && number == ROUTER_ACCEPTED) {
+        count_tick();
+        if (calls % CONTEST_SAMPLE == 0)
+            count_contests();
     }
 }
 
@@ -664,68 +207,19 @@ static void test_fresh(void)
     }
 }
 
-/* Calls with one length wrong, all else sound or all else wrong too. */
-static void wrong_length(enum entry entry, enum area i, size_t len)
-{
-    for (unsigned damaged = 0; damaged < 2; damaged++) {
-        struct call c = make_call(entry, damaged ? 255 : 1, damaged ? 255 : 1);
-
-        c.len[i] = len;
-        make_sound(below(257));
-        state[ROUTER_STATE_HORIZONS] |= (uint8_t)(damaged << 7);
-        expect("wrong length", call_both(&c), ROUTER_BAD_LENGTH);
-    }
-}
-
-/* A length that is right in its low 16 or 32 bits; the area is as long as that, and read-only. */
-static void long_area(enum entry entry, enum area i, size_t more)
-{
-    struct call c = make_call(entry, 1, 1);
-    size_t len = area_len[i] + more;
-    uint8_t *lent[AREAS];
-    uint8_t *map = mmap(NULL, len, PROT_READ, MAP_PRIVATE | MAP_ANONYMOUS | MAP_NORESERVE, -1, 0);
-
-    if (map == MAP_FAILED)
-        fail("no area of %zu bytes", len);
-    make_sound(below(257));
-    for (unsigned k = 0; k < AREAS; k++)
-        lent[k] = lend(entry, k, area[k], area_len[k], 1);
-    c.len[i] = len;
-    lent[i] = map;
-    expect("long area", call_router(&c, lent), ROUTER_BAD_LENGTH);
-    for (unsigned k = 0; k < AREAS; k++) {
-        if (k != i && memcmp(lent[k], area[k], area_len[k]) != 0)
-            fail("%s changed in a call with a long area", area_name[k]);
-    }
-    munmap(map, len);
-}
-
 static void test_lengths(void)
 {
-    for (unsigned entry = FRESH; entry <= TICK; entry++) {
-        for (unsigned i = 0; i < areas_lent(entry); i++) {
-            size_t right = area_len[i];
-            size_t wrong[] = {0, 1, 2, right / 2, right - 1, right + 1, right + 2, 2 * right, right + 256,
-                              area_len[0], area_len[1], area_len[2], area_len[4]};
+    try_lengths(make_sound);
+}
 
-            for (unsigned k = 0; k < sizeof wrong / sizeof *wrong; k++) {
-                if (wrong[k] != right)
-                    wrong_length(entry, i, wrong[k]);
-            }
-            for (unsigned k = 0; k < 100; k++) {
-                size_t len = below(2 * (unsigned)right);
+static void test_masks(void)
+{
+    try_masks(make_sound);
+}
 
-                if (len != right)
-                    wrong_length(entry, i, len);
-            }
-            long_area(entry, i, (size_t)1 << 16);
-            if (SIZE_MAX > UINT32_MAX)
-                long_area(entry, i, (size_t)UINT32_MAX + 1);
-        }
-        struct call c = {entry, {0}, 0, 0};
-
-        expect("all lengths zero", call_both(&c), ROUTER_BAD_LENGTH);
-    }
+static void test_registers(void)
+{
+    try_registers(make_sound);
 }
 
 /* The display part in an area of any length, which is lent read-only at either end of its pages. */
@@ -778,38 +272,6 @@ static void test_display(void)
     display_long((size_t)1 << 16);
     if (SIZE_MAX > UINT32_MAX)
         display_long((size_t)UINT32_MAX + 1);
-}
-
-static void test_masks(void)
-{
-    for (unsigned arrivals = 0; arrivals < 256; arrivals++) {
-        make_sound(below(257));
-        for (unsigned best_effort = 0; best_effort < 256; best_effort++) {
-            unsigned number = arrivals > ROUTER_MASK_MAX || best_effort > ROUTER_MASK_MAX ? ROUTER_BAD_PORT_MASK
-                                                                                          : ROUTER_ACCEPTED;
-
-            for (unsigned p = 0; p < ROUTER_PORTS; p++)
-                put_arrival(p, random_byte(), between(-20, 127));
-            expect("tick", tick(arrivals, best_effort), number);
-        }
-    }
-}
-
-static void test_registers(void)
-{
-    static const unsigned largest[ROUTER_REGISTERS] = {255, 127, 31, 255, 31, 127};
-
-    for (unsigned reg = 0; reg < 256; reg++) {
-        for (unsigned value = 0; value < 256; value++) {
-            unsigned number = reg >= ROUTER_REGISTERS ? ROUTER_BAD_REGISTER
-                              : value > largest[reg]  ? ROUTER_BAD_VALUE
-                                                      : ROUTER_ACCEPTED;
-
-            if (value % 16 == 0)
-                make_sound(below(257));
-            expect("control write", control(reg, value), number);
-        }
-    }
 }
 
 /* ---- Question 2 ---- */
@@ -1118,22 +580,6 @@ static void test_full(void)
 
 /* ---- Random calls ---- */
 
-static void random_call(const struct regime *r)
-{
-    uint8_t first, second;
-
-    if (chance(r->controls)) {
-        random_control(r, &first, &second);
-        control(first, second);
-        return;
-    }
-    for (unsigned p = 0; p < ROUTER_PORTS; p++)
-        random_arrival(r, state, arrival_at(p));
-    first = chance(r->odd) ? random_byte() : random_mask(r->arrivals);
-    second = chance(r->odd) ? random_byte() : random_mask(r->best_effort);
-    tick(first, second);
-}
-
 /* Long runs from a fresh router. */
 static void test_evolving(void)
 {
@@ -1160,7 +606,7 @@ static void test_made(void)
     }
 }
 
-/* One to three random bytes changed, mostly in the state, in sound states and after ticks. */
+/* Random bytes changed, in sound states and after ticks. */
 static void test_damaged(void)
 {
     struct regime r = random_regime();
@@ -1171,11 +617,7 @@ static void test_damaged(void)
             make_sound(below(257));
             keep();
         }
-        for (unsigned changes = below(4); changes > 0; changes--) {
-            uint8_t *byte = chance(90) ? state + below(ROUTER_STATE_LEN) : memory + below(ROUTER_MEMORY_LEN);
-
-            *byte = (uint8_t)(chance(50) ? random_byte() : *byte ^ 1u << below(8));
-        }
+        damage();
         random_call(&r);
         if (control(ROUTER_REG_OUT_ID, 0) != ROUTER_ACCEPTED || chance(20))
             come_back();
@@ -1344,7 +786,7 @@ static void whole_tick_both(const struct regime *r, int serials)
         lent[i] = lend(TICK, i, bytes[i], c.len[i], (int)below(2));
     expected = whole_tick(&whole, bytes[ARRIVALS], c.len[ARRIVALS], time, bytes[OUTGOING], c.len[OUTGOING],
                           bytes[ANSWERS], c.len[ANSWERS], c.first, c.second);
-    number = call_router(&c, lent);
+    number = call_counted(&c, lent);
     expect("number", number, expected);
     for (unsigned i = ARRIVALS; i < AREAS; i++) {
         if (memcmp(lent[i], bytes[i], c.len[i]) != 0)
@@ -1367,7 +809,7 @@ static void whole_control_both(const struct regime *r)
     uint8_t number;
 
     random_control(r, &c.first, &c.second);
-    number = call_router(&c, lent);
+    number = call_counted(&c, lent);
     expect("number", number, whole_control(&whole, c.first, c.second));
     occurred[WHOLE_REFUSED] += number != ROUTER_ACCEPTED;
     check_settings();
@@ -1385,7 +827,7 @@ static void test_whole(void)
 
             lent[STATE] = whole_state = lend(FRESH, STATE, state, ROUTER_STATE_LEN, (int)below(2));
             lent[MEMORY] = whole_memory = lend(FRESH, MEMORY, memory, ROUTER_MEMORY_LEN, (int)below(2));
-            expect("fresh", call_router(&c, lent), ROUTER_ACCEPTED);
+            expect("fresh", call_counted(&c, lent), ROUTER_ACCEPTED);
             whole_fresh(&whole, c.first);
             ledger_count = 0;
             serials = ticks % 240000 != 180000;
@@ -1459,29 +901,12 @@ static void test_fig_10(void)
 
 static void test_occurred(void)
 {
-    unsigned missing = 0;
-
-    for (unsigned e = 0; e < EVENTS; e++) {
-        printf("     %-48s %10lu%s\n", event_name[e], occurred[e], occurred[e] == 0 ? "   NEVER" : "");
-        missing += occurred[e] == 0;
-    }
-    if (missing != 0)
-        fail("%u of these never occurred", missing);
+    check_occurred(event_name, occurred, EVENTS);
 }
 
 int main(int argc, char **argv)
 {
-    struct sigaction action;
-
-    seed = argc > 1 ? strtoull(argv[1], NULL, 10) : DEFAULT_SEED;
-    memset(&action, 0, sizeof action);
-    action.sa_sigaction = on_fault;
-    action.sa_flags = SA_SIGINFO | SA_NODEFER;
-    sigaction(SIGSEGV, &action, NULL);
-    sigaction(SIGBUS, &action, NULL);
-    map_areas();
-    printf("seed %" PRIu64 "\n", seed);
-
+    start(argc, argv);
     section("a fresh router, every clock", test_fresh);
     section("wrong and zero lengths", test_lengths);
     section("the display part, every port", test_display);
@@ -1498,7 +923,5 @@ int main(int argc, char **argv)
     section("the router that never turns over, and fates", test_whole);
     section("document 001, Fig. 10", test_fig_10);
     section("all numbers, codes and events occurred", test_occurred);
-    printf("test: %u passed, %u failed, %lu calls, %.0f s of processor time\n", passed, failed, calls,
-           (double)clock() / CLOCKS_PER_SEC);
-    return failed == 0 ? EXIT_SUCCESS : EXIT_FAILURE;
+    return finish("test");
 }

@@ -5,16 +5,21 @@
  * 256 connections and a packet memory of 256 slots. All it knows lies in two areas of the caller, the state and
  * the packet memory; it keeps no variable and no pointer of its own, allocates nothing and calls nobody back.
  * A board makes the two areas fresh once, opens connections with control writes, and then calls a tick once per
- * packet time; display software finds the data of a port with router_display.
+ * packet time; display software finds the data of a port with router_display. The service bench may run the queue
+ * engine in their place (see THE QUEUE ENGINE): the same router, with every port's queues in a third area.
  *
  *
  * LINKING
  *
- * `rt staticlib router` proves the library and writes target/staticlib/librouter.a: code for Linux on any x86-64
- * processor, by the System V calling convention. It needs memcpy and memset, and nothing else: no start-up code, no
- * heap, no other function. docs/BENCH.md has the stack of each call.
- * The kit compiles for no other target. For another processor there is host/plain.c, the same entries in C99 (under
- * these names by host/self.c): it is tested against this archive byte for byte, and not proved.
+ * `rt staticlib router` proves the library and writes target/staticlib/librouter.a with router_fresh, router_control,
+ * router_tick and router_display; `rt staticlib service` does so for target/staticlib/libservice.a with
+ * router_queues_fill, router_queues_control and router_queues_tick. A board links the first alone; neither needs the
+ * other, and a program may link both. They are code for Linux on any x86-64 processor, by the System V calling
+ * convention, and need memcpy (the first) and memset, and nothing else: no start-up code, no heap, no other function.
+ * docs/BENCH.md has the stack of each call.
+ * The kit compiles for no other target. For another processor there are host/plain.c and host/plain_queues.c, the same
+ * entries in C99 (under these names by host/self.c and host/self_queues.c): they are tested against these archives byte
+ * for byte, and not proved.
  *
  *
  * AREAS
@@ -57,7 +62,7 @@ extern "C" {
  * only added; the third with anything else.
  */
 #define ROUTER_VERSION_MAJOR 1
-#define ROUTER_VERSION_MINOR 0
+#define ROUTER_VERSION_MINOR 1
 #define ROUTER_VERSION_PATCH 0
 #define ROUTER_VERSION (ROUTER_VERSION_MAJOR * 10000 + ROUTER_VERSION_MINOR * 100 + ROUTER_VERSION_PATCH)
 
@@ -134,6 +139,7 @@ extern "C" {
 #define ROUTER_BAD_PORT_MASK 3   /* tick: a mask is above ROUTER_MASK_MAX */
 #define ROUTER_BAD_REGISTER 4    /* control: there is no such register */
 #define ROUTER_BAD_VALUE 5       /* control: the value does not fit the register */
+#define ROUTER_BAD_QUEUES 21     /* queue engine: the queues are not those of the state (see BELONG) */
 
 /* Arrival numbers, one per input in the answers; the refusals are put in this order. */
 #define ROUTER_ARRIVAL_NONE 0    /* the arrivals mask does not have this port */
@@ -236,6 +242,107 @@ uint8_t router_tick(uint8_t *state, size_t state_len,
  *         show(outgoing + start, ROUTER_DATA_LEN);
  */
 size_t router_display(const uint8_t *outgoing, size_t outgoing_len, uint8_t port);
+
+/*
+ * THE QUEUE ENGINE, of libservice.a: the router as the table of its scheduling model has it, with three queues for
+ * each port. Queue 1 has the packets on time, the least deadline - t first; queue 2 is best-effort traffic, of which
+ * the router knows only that it waits; queue 3 has the early packets, the least time - t first. Among equals the lower
+ * slot is first. A port sends the first of queue 1; else queue 2 has it, where it waits; else it sends the first of
+ * queue 3, if that is within its horizon. A packet moves from queue 3 to queue 1 when its logical arrival time comes.
+ *
+ * Queues 1 and 3 of all ports lie in a third area of the caller, the queues, so that anybody can read them there at
+ * any time. router_queues_fill fills them from a sound state; from then on router_queues_control and
+ * router_queues_tick, called in the place of router_control and router_tick, keep them, and do to all other areas, and
+ * return, what these do. After each of the three every queue has exactly the stored slots of its port and sort, in the
+ * order above.
+ * Whoever changes the state or the memory in another way, by router_fresh or router_tick for instance, fills the queues
+ * again before the next call of the engine. router_control may come in between: it changes no stored packet.
+ *
+ * The queues area, by offset; `at` is ROUTER_QUEUE_LEN * (2 * port + sort):
+ *
+ *     at                                       the size n of the queue, 0 to 256, two bytes, high byte first
+ *     at + ROUTER_QUEUE_ENTRIES + n - 1        the slot that is first in the queue
+ *     at + ROUTER_QUEUE_ENTRIES + n - 2        the next one, and so on
+ *     at + ROUTER_QUEUE_ENTRIES                the last one
+ *     at + ROUTER_QUEUE_ENTRIES + n            from here on to the end of the queue's bytes: no part of it
+ *
+ *     port      0          1          2          3          4
+ *     on time   0-257      516-773    1032-1289  1548-1805  2064-2321
+ *     early     258-515    774-1031   1290-1547  1806-2063  2322-2579
+ *
+ * So the slots of a queue are walked, first ones first, by
+ *
+ *     const uint8_t *queue = queues + ROUTER_QUEUE_LEN * (2 * port + ROUTER_QUEUE_ON_TIME);
+ *
+ *     for (unsigned n = queue[0] << 8 | queue[1]; n > 0; n--)
+ *         show(queue[ROUTER_QUEUE_ENTRIES + n - 1]);
+ */
+#define ROUTER_QUEUES_LEN 2580
+#define ROUTER_QUEUE_LEN 258
+#define ROUTER_QUEUE_ENTRIES 2   /* offset of entry 0 in a queue, one byte per entry */
+#define ROUTER_QUEUE_ON_TIME 0   /* sorts */
+#define ROUTER_QUEUE_EARLY 1
+
+/*
+ * BELONG. For a control write or a tick the queues belong to the state as far as can be told at once if for each port
+ *   - the sizes of its two queues make the number of slots whose mask has the port;
+ *   - the first slot of each queue that is not empty has the port in its mask, and is of the queue's sort.
+ * Queues that the three calls below have kept always do. Those of another state, or of the same from before a tick of
+ * router_tick, as a rule do not, and are refused; a wrong entry behind the first one is not seen. What a tick then does
+ * is still within its areas and determined by their bytes, but need not be what router_tick does.
+ */
+
+/*
+ * router_queues_fill fills the queues from a state and its memory.
+ *
+ * Reads state and memory, and only reads them. The old content of the queues is not looked at. If accepted it writes
+ * all of the queues: sizes and entries as above, and zero from entry n on.
+ *
+ * Returns ROUTER_ACCEPTED, ROUTER_BAD_LENGTH or ROUTER_BAD_STATE.
+ */
+uint8_t router_queues_fill(const uint8_t *state, size_t state_len,
+                           const uint8_t *memory, size_t memory_len,
+                           uint8_t *queues, size_t queues_len);
+
+/*
+ * router_queues_control writes one control register, as router_control does.
+ *
+ * Reads state, memory and queues (memory and queues for the questions whether they are sound and belong, and only
+ * reads these two). If accepted it writes what router_control writes, state bytes only: no stored packet changes, and
+ * so no queue.
+ *
+ * Returns what router_control returns, or ROUTER_BAD_LENGTH if the queues do not have their length; if it would be
+ * accepted otherwise, ROUTER_BAD_QUEUES if the queues do not belong to the state.
+ */
+uint8_t router_queues_control(uint8_t *state, size_t state_len,
+                              const uint8_t *memory, size_t memory_len,
+                              const uint8_t *queues, size_t queues_len,
+                              uint8_t reg, uint8_t value);
+
+/*
+ * router_queues_tick runs one packet time, as router_tick does, by the queues.
+ *
+ * Reads and writes what router_tick does, and the queues. If accepted, with the steps of router_tick:
+ *
+ *   1. A stored arrival enters the queue of its sort, on each port of its mask, at its place in the order.
+ *   2. Each port sends by its three queues as above.
+ *   3. What a port sends leaves its queue; on other ports it stays.
+ *   4. Packets with deadline t, which are first in the queues of packets on time, leave them.
+ *   6. Once the clock has advanced, the first ones of each early queue whose time has come move over.
+ *
+ * A slot that enters moves those that go before it up by one entry. A slot that leaves, first ones only, lowers the
+ * size and stays behind as a byte. No other byte of the queues changes.
+ *
+ * Returns what router_tick returns, or ROUTER_BAD_LENGTH if the queues do not have their length; if it would be
+ * accepted otherwise, ROUTER_BAD_QUEUES if the queues do not belong to the state.
+ */
+uint8_t router_queues_tick(uint8_t *state, size_t state_len,
+                           uint8_t *memory, size_t memory_len,
+                           uint8_t *queues, size_t queues_len,
+                           const uint8_t *arrivals, size_t arrivals_len,
+                           uint8_t *outgoing, size_t outgoing_len,
+                           uint8_t *answers, size_t answers_len,
+                           uint8_t arrivals_mask, uint8_t best_effort_mask);
 
 #ifdef __cplusplus
 }

@@ -91,6 +91,15 @@ def best_effort():
     t += b"".join(tick(31) for _ in range(24)) + b"".join(tick(0) for _ in range(12))
     return t + arrival(0, 1, 61) + tick(0) + tick(0)
 
+def queues():
+    """Ends after a turn of the clock with packets on time and early on several ports, many with equal keys."""
+    t = connect(1, 0xA1, 60, 1) + connect(2, 0xB2, 40, 6) + connect(3, 0xC3, 90, 8) + connect(4, 0xD4, 15, 13)
+    t += horizon(1, 12) + horizon(2, 3) + horizon(12, 20) + b"".join(tick() for _ in range(250))
+    for n in range(250, 262):
+        t += arrival(0, 1, n - n % 3) + arrival(1, 2, n - n % 2 + 4 * (n // 2 % 3)) + arrival(2, 2, 248) + arrival(3, 3, n + 9 + n % 2 * 30) + arrival(4, 4, 268 + n % 3)
+        t += tick(26)
+    return t + arrival(2, 4, 263) + tick(18)
+
 def empty():
     """Nothing, so nothing is printed."""
     return b""
@@ -131,7 +140,7 @@ def chance(seed, n):
         count += 1
     return b"".join(out)
 
-TAPES = [refusals, turns, full, multicast, withdrawals, best_effort, empty, rest, blocks]
+TAPES = [refusals, turns, full, multicast, withdrawals, best_effort, queues, empty, rest, blocks]
 MADE = {"long": lambda n: chance(n, n), "numbers": lambda n: record(0) * n, "far": far}
 
 def ship(folder):

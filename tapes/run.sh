@@ -26,7 +26,7 @@ if [ -z "$program" ]; then
 fi
 [ -x "$program" ] || { echo "tapes: there is no program $program" >&2; exit 1; }
 gcc -std=c99 -Wall -Wextra -Wpedantic -Werror -O2 -I"$here/../include" -I"$here/../host" \
-    "$here/second.c" "$here/../host/whole.c" -o "$build/second" || exit 1
+    "$here/second.c" "$here/../host/record.c" "$here/../host/whole.c" -o "$build/second" || exit 1
 
 tape() {
     timeout 60 "$program"

@@ -7,26 +7,8 @@
 #include <stdlib.h>
 #include <string.h>
 
+#include "record.h"
 #include "whole.h"
-
-/* A record. */
-#define RECORD_LEN 24
-#define RECORD_KIND 0
-#define RECORD_REGISTER 1    /* control */
-#define RECORD_VALUE 2       /* control */
-#define RECORD_PORT 1        /* arrival */
-#define RECORD_PACKET 4      /* arrival */
-#define RECORD_BEST_EFFORT 1 /* tick */
-
-#define KIND_CONTROL 0x43
-#define KIND_ARRIVAL 0x41
-#define KIND_TICK 0x54
-
-/* Refusals of a record; those of the router have the numbers of router.h. */
-#define RECORD_SHORT 9
-#define RECORD_BAD_KIND 10
-#define RECORD_BAD_BYTES 11
-#define RECORD_PORT_TAKEN 12
 
 static struct whole router;
 
@@ -39,32 +21,6 @@ static void print_refusal(unsigned long number, unsigned refusal)
 {
     if (refusal != ROUTER_ACCEPTED)
         printf("R %06lu %02u\n", number, refusal);
-}
-
-static int is_zero(const uint8_t *bytes, const uint8_t *end)
-{
-    while (bytes != end && *bytes == 0)
-        bytes++;
-    return bytes == end;
-}
-
-/* Questions 10 to 12, put to a whole record: the first that it doesn't pass, or 0. */
-static unsigned ask(const uint8_t *record)
-{
-    const uint8_t *end = record + RECORD_LEN;
-
-    switch (record[RECORD_KIND]) {
-    case KIND_CONTROL:
-        return is_zero(record + RECORD_VALUE + 1, end) ? ROUTER_ACCEPTED : RECORD_BAD_BYTES;
-    case KIND_ARRIVAL:
-        if (!is_zero(record + RECORD_PORT + 1, record + RECORD_PACKET) || record[RECORD_PORT] >= ROUTER_PORTS)
-            return RECORD_BAD_BYTES;
-        return waiting >> record[RECORD_PORT] & 1 ? RECORD_PORT_TAKEN : ROUTER_ACCEPTED;
-    case KIND_TICK:
-        return is_zero(record + RECORD_BEST_EFFORT + 1, end) ? ROUTER_ACCEPTED : RECORD_BAD_BYTES;
-    default:
-        return RECORD_BAD_KIND;
-    }
 }
 
 /* Keeps an arrival for the coming tick. */
@@ -142,7 +98,7 @@ static void tick(unsigned long number, uint8_t best_effort)
 
 static void take_record(unsigned long number, const uint8_t *record)
 {
-    unsigned refusal = ask(record);
+    unsigned refusal = ask_record(record, waiting);
 
     if (refusal != ROUTER_ACCEPTED)
         print_refusal(number, refusal);
