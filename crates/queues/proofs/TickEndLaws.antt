@@ -2,7 +2,7 @@
 -- comparator's order of the others is still the same. Told of the packets that the slots show, whose times are whole numbers. Assumes nothing.
 use Prim.Native.Nat.{ℕ, suc, _-_, _<_}
 use mathlib.Core.Path.{_≡_, refl, sym, ap, ap₂, subst, _∙_}
-use mathlib.Core.Bool.{Bool, true, false, not, _&&_, _||_, true≢false, Bool·beq, and-true, and-false}
+use mathlib.Core.Bool.{Bool, true, false, not, _&&_, _||_, true≢false, Bool·beq, and-true, and-false, Bool·not-not}
 use mathlib.Core.List.{List}
 use mathlib.Core.Option.{Option, none, some}
 use native.Mathlib.Omega.{arith}
@@ -35,11 +35,6 @@ use Rattle.queues.specs.Table1.{before, waits, Lists, Holds}
 use Rattle.queues.proofs.ListLaws.{Front, dropped, moved, lists-as, lists-same, lists-dropped, lists-moved}
 use Rattle.queues.proofs.BeforeLaws.{strict-keys, goes, before-goes, strict-before, total-before}
 use Rattle.queues.proofs.ChoiceLaws.{waits-slot, slot-waits}
-
--- Not twice is so.
-not-not : (t : Bool) → not (not t) ≡ true → t ≡ true
-not-not true e = refl
-not-not false e = absurd (true≢false (sym e))
 
 -- A due packet's deadline is the clock.
 due-at : (t : ℤ) (x : Packet) → isDue t x ≡ true → T (leZ (x .deadline) t)
@@ -320,7 +315,7 @@ module _ (B : Board) (L : Laws B) where
       early-ends E = lists-as (lists-dropped (strict-before B s₃) E come-front) early-after (λ i j hi hj.
           let wi = and-left (waits B s₃ p true i) (not (come i)) hi in
           let wj = and-left (waits B s₃ p true j) (not (come j)) hj in
-          still true i j wi wj (due-shown true i wi ∙ early-not-due i wi) (due-shown true j wj ∙ early-not-due j wj) (not-not (isEarly B s₆ i) (and-right (waits B s₃ p true i) (not (come i)) hi)) (not-not (isEarly B s₆ j) (and-right (waits B s₃ p true j) (not (come j)) hj)))
+          still true i j wi wj (due-shown true i wi ∙ early-not-due i wi) (due-shown true j wj ∙ early-not-due j wj) (sym (Bool·not-not (isEarly B s₆ i)) ∙ and-right (waits B s₃ p true i) (not (come i)) hi) (sym (Bool·not-not (isEarly B s₆ j)) ∙ and-right (waits B s₃ p true j) (not (come j)) hj))
 
       pub on-time-ends : {lo le : List ℕ} → Holds B s₃ p false lo → Holds B s₃ p true le → Holds B s₆ p false (moved (before B s₆) come le (dropped d lo))
       on-time-ends {lo} O E = lists-same (lists-moved (strict-before B s₆) (total-before B s₆) (strict-before B s₃) E undue apart come-front) on-time-after

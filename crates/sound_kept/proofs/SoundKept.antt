@@ -218,7 +218,7 @@ module _ (B : Board) (L : Laws B) where
   fed-bytes w r (control register v) = refl
   fed-bytes w r (tick k out ans) = refl
 
-  pub feed-bytes : (ks : List Call) (w : Router) (r : Store) → afterAll (byteStep B) r (feed c w ks) ≡ afterAll (byteStep B) r ks
+  feed-bytes : (ks : List Call) (w : Router) (r : Store) → afterAll (byteStep B) r (feed c w ks) ≡ afterAll (byteStep B) r ks
   unfolding afterAll feed
   feed-bytes [] w r = refl
   feed-bytes (k ∷ ks) w r =
