@@ -1,12 +1,9 @@
 -- Five counts in one number, twelve bits each. Assumes nothing.
 use Prim.Native.Nat.{ℕ, zero, suc, _+_, _*_}
-use mathlib.Core.Bool.{Bool, true, false, _&&_}
 use mathlib.Core.List.{List, [], _∷_}
 use Rattle.rules.specs.Order.{count, counted}
 use Rattle.rules.specs.Areas.{has}
 use Rattle.rules.specs.Board.{Mask, board8}
-use Rattle.queues.specs.Area.{queue}
-use Rattle.queues.specs.Engine.{first, sizesFit, firstFits}
 
 -- Port p's count is f p.
 unfoldable pub packedCounts : (ℕ → ℕ) → ℕ
@@ -24,7 +21,3 @@ spreads (suc n) i = spread i ∷ spreads n (suc i)
 -- How many of the slots below n wait for port p.
 abbrev pub waitFor : List ℕ → ℕ → ℕ → ℕ
 waitFor s n p = count n (λ i. has (board8 .get s (Mask, i)) p)
-
--- The queues of port p have as many slots as wait for it, and right first ones.
-abbrev pub portFits : List ℕ → List ℕ → ℕ → Bool
-portFits s q p = sizesFit board8 s q p && (firstFits board8 s p false (first (queue q p false)) && firstFits board8 s p true (first (queue q p true)))

@@ -99,7 +99,7 @@ fn size_of(queues: &[u8], port: u8, early: bool) -> u64
 // The queues of a port have as many slots as wait for it, and right first ones.
 fn port_fits(state: &[u8], queues: &[u8], port: u8, count: u64) -> bool
     requires { ⌜ (length (now queues) ≡ queuesLength) × (port < 5) × (count ≡ Counts.waitFor (now state) 256 port) ⌝ }
-    ensures { λ r. ⌜ r ≡ Counts.portFits (now (state .entry)) (now (queues .entry)) port ⌝ }
+    ensures { λ r. ⌜ r ≡ Engine.portFits board8 (now (state .entry)) (now (queues .entry)) port ⌝ }
 {
     let n = size_of(queues, port, false) + size_of(queues, port, true);
     let on_time = first_fits(state, queues, port, false);

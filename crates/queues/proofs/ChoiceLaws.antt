@@ -17,6 +17,7 @@ use Rattle.rules.specs.Tick.{granted, isEarly, slotKey, candidate, grant}
 use Rattle.rules.proofs.Booleans.{some-inj, none-some, and-left, and-right, beq-eq, eq-beq}
 use Rattle.rules.proofs.OrderLaws.{Strict, least-beats}
 use Rattle.rules.proofs.IndexLaws.{least-in}
+use Rattle.rules.proofs.Soundness.{elem-at}
 use Rattle.queues.specs.Table1.{before, waits, Holds}
 use Rattle.queues.specs.Area.{queue, size, entry, inQueue}
 use Rattle.queues.specs.Engine.{firstOf, first, heading, tableGrant, queueGrant}
@@ -159,11 +160,24 @@ module _ (B : Board) where
 
     -- ---- the first of a queue
 
-    -- It waits for the port.
+    -- Every slot of a queue waits for the port.
+    entry-waits : (e : Bool) (x : List ℕ) (n k : ℕ) → Holds B s p e (topFirst (entry x) n) → k < n → has (get s (Mask, entry x k)) p ≡ true
+    entry-waits e x n k L h = waits-slot s p e (entry x k) (sym (L .slots (entry x k)) ∙ elem-at (entry x) (entry x k) n k h refl) .1
+
+    -- A slot that waits is kept, and where there is none there is none.
+    heading-waits : (i : ℕ) → has (get s (Mask, i)) p ≡ true → heading B s p (some i) ≡ some i
+    unfolding heading
+    heading-waits i h = rw h
+
+    heading-none : heading B s p none ≡ none
+    unfolding heading
+    heading-none = refl
+
+    -- So the first of a queue is.
     heading-first : (e : Bool) (x : List ℕ) (n : ℕ) → Holds B s p e (topFirst (entry x) n) → heading B s p (firstOf n x) ≡ firstOf n x
-    unfolding heading firstOf topFirst
-    heading-first e x zero L = refl
-    heading-first e x (suc n) L = ap (λ (t : Bool). cond t (some (entry x n)) none) (waits-slot s p e (entry x n) (first-slot L) .1)
+    unfolding firstOf
+    heading-first e x zero L = heading-none
+    heading-first e x (suc n) L = heading-waits _ (entry-waits e x (suc n) _ L (omega arith))
 
     -- Of a queue x on time and an early one y.
     module _ (x y : List ℕ) (b : Bool) where

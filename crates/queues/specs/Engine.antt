@@ -138,9 +138,12 @@ module _ (B : Board) where
   firstFits s p e none = true
   firstFits s p e (some i) = waits B s p e i
 
+  abbrev pub portFits : List ℕ → List ℕ → ℕ → Bool
+  portFits s q p = sizesFit s q p && (firstFits s p false (first (queue q p false)) && firstFits s p true (first (queue q p true)))
+
   -- 21: do the queues belong to the state, as far as their sizes and their first ones tell?
   unfoldable pub fitting : List ℕ → List ℕ → Bool
-  fitting s q = all 5 (λ p. sizesFit s q p && (firstFits s p false (first (queue q p false)) && firstFits s p true (first (queue q p true))))
+  fitting s q = all 5 (portFits s q)
 
   -- Every question of the router's, of which n is the number, and then whether the queues belong to the state.
   abbrev pub questions : Bench → ℕ → List (Bool × ℕ)

@@ -6,8 +6,9 @@ use mathlib.Core.Path.{_≡_, refl, ap₂}
 use native.Mathlib.Numerals.{add-one}
 use native.Mathlib.Omega.{arith}
 use Rattle.rules.specs.Order.{all}
+use Rattle.rules.specs.Board.{board8}
 use Rattle.queues.specs.Engine as Engine
-use Rattle.fitting.specs.Counts.{packedCounts, waitFor, portFits}
+use Rattle.fitting.specs.Counts.{packedCounts, waitFor}
 use Rattle.fitting.proofs.PackedCounts.{packed-count, packed-above}
 use borrow.Author.Needs.{needs}
 use Rattle.fitting.proofs.fitting.Statement.{statement}
@@ -15,7 +16,7 @@ use Rattle.fitting.proofs.fitting.Tie as tie
 
 abbrev Inv-loop : tie.InvT-loop
 Inv-loop state queues left₀ fits₀ p₀ left fits p =
-    (p ≤ 5) × (left ≡ packedCounts (waitFor state 256) / 4096 ^ p) × (fits ≡ all p (portFits state queues))
+    (p ≤ 5) × (left ≡ packedCounts (waitFor state 256) / 4096 ^ p) × (fits ≡ all p (Engine.portFits board8 state queues))
 
 abbrev μ-loop : tie.MeasureT-loop
 μ-loop state queues left₀ fits₀ p₀ left fits p = 5 - p

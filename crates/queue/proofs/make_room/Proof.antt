@@ -41,7 +41,7 @@ returns c =
     let i = start .args .s .0 in
     let h : i < 256 = omega (arith, start .good) in (
       l .inv .0,
-      placed-here _ _ _ _ _ (turn .loop-test .taken) (e .slot .ensures) (higher-after board8 _ _ i (omega arith) h _ _ (r .rank2 .ensures) (k .ensures) (c .if1 .taken))
+      placed-here _ _ _ _ _ (turn .loop-test .taken) (e .slot .ensures) (higher-after board8 _ _ i (omega arith) h _ _ (r .rank2 .ensures) (k .ensures) (omega (arith, c .if1 .taken)))
           ∙ l .inv .2 i h (k .ensures),
     )
 
@@ -62,7 +62,7 @@ loop-again c =
       omega (arith, l .inv .0),
       search needs,
       λ i h k. rw (p .put-slot .ensures)
-          (placed-below _ _ _ _ _ (turn .loop-test .taken) (e .slot .ensures) (lower-before board8 _ _ _ (omega arith) h _ _ (r .rank2 .ensures) k (t .if1 .left)) ∙ l .inv .2 i h k),
+          (placed-below _ _ _ _ _ (turn .loop-test .taken) (e .slot .ensures) (lower-before board8 _ _ _ (omega arith) h _ _ (r .rank2 .ensures) k (omega (arith, t .if1 .left))) ∙ l .inv .2 i h k),
     )
 
 returns-2 : tie.Need-returns-2 Inv-loop μ-loop
