@@ -2,7 +2,7 @@
 # archive.sh - prints the path of the archive to link: the given one, or the plain implementation under the router's
 # names, or, where none is given, the crate's own, which it has proved and built.
 # usage: archive.sh FOLDER [ARCHIVE|plain|'' [CRATE]]   (FOLDER: for what is built on the way; CRATE: router, or service
-# for the queue engine)
+# for the service entries)
 set -eu
 here=$(cd "$(dirname "$0")" && pwd)
 crate=${3:-router}

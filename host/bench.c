@@ -1,10 +1,10 @@
 /*
- * bench.c - runs the router, the queue engine and the plain implementations (gcc -O2 and -O3) through like calls;
+ * bench.c - runs the router, the service entries and the plain implementations (gcc -O2 and -O3) through like calls;
  * bench.sh makes the tables from it.
  *   bench count IMPLEMENTATION SCENARIO REPEATS   repeats the call, for an instruction count from outside
  *   bench wall                                    prints nanoseconds per call, the implementations alternating
  *   bench stack                                   prints the bytes of stack that a call writes
- *   bench names router|engine                     prints the scenarios of either
+ *   bench names router|engine|fault               prints the scenarios of one of them
  */
 #define _DEFAULT_SOURCE
 
@@ -14,32 +14,12 @@
 #include <time.h>
 #include <ucontext.h>
 
-#include "router.h"
-
-/* The forms of the entries. */
-typedef uint8_t fresh_form(uint8_t *, size_t, uint8_t *, size_t, uint8_t);
-typedef uint8_t control_form(uint8_t *, size_t, const uint8_t *, size_t, uint8_t, uint8_t);
-typedef uint8_t tick_form(uint8_t *, size_t, uint8_t *, size_t, const uint8_t *, size_t, uint8_t *, size_t, uint8_t *,
-                          size_t, uint8_t, uint8_t);
-typedef uint8_t queues_fill_form(const uint8_t *, size_t, const uint8_t *, size_t, uint8_t *, size_t);
-typedef uint8_t queues_control_form(uint8_t *, size_t, const uint8_t *, size_t, const uint8_t *, size_t, uint8_t,
-                                    uint8_t);
-typedef uint8_t queues_tick_form(uint8_t *, size_t, uint8_t *, size_t, uint8_t *, size_t, const uint8_t *, size_t,
-                                 uint8_t *, size_t, uint8_t *, size_t, uint8_t, uint8_t);
-
-struct implementation {
-    const char *name;
-    fresh_form *fresh;
-    control_form *control;
-    tick_form *tick;
-    queues_fill_form *queues_fill;
-    queues_control_form *queues_control;
-    queues_tick_form *queues_tick;
-};
+#include "entries.h"
 
 fresh_form plain_o2_fresh, plain_o3_fresh;
 control_form plain_o2_control, plain_o3_control;
 tick_form plain_o2_tick, plain_o3_tick;
+fault_form plain_o2_fault, plain_o3_fault;
 queues_fill_form plain_o2_queues_fill, plain_o3_queues_fill;
 queues_control_form plain_o2_queues_control, plain_o3_queues_control;
 queues_tick_form plain_o2_queues_tick, plain_o3_queues_tick;
@@ -68,6 +48,12 @@ static uint8_t none_tick(uint8_t *state, size_t state_len, uint8_t *memory, size
     return ROUTER_ACCEPTED;
 }
 
+static uint16_t none_fault(const uint8_t *state, size_t state_len, const uint8_t *memory, size_t memory_len)
+{
+    (void)state, (void)state_len, (void)memory, (void)memory_len;
+    return ROUTER_ACCEPTED;
+}
+
 static uint8_t none_queues_fill(const uint8_t *state, size_t state_len, const uint8_t *memory, size_t memory_len,
                                 uint8_t *queues, size_t queues_len)
 {
@@ -92,9 +78,6 @@ static uint8_t none_queues_tick(uint8_t *state, size_t state_len, uint8_t *memor
                      answers_len, arrivals_mask, best_effort_mask);
 }
 
-#define ENTRIES_OF(prefix)                                                                                           \
-    prefix##_fresh, prefix##_control, prefix##_tick, prefix##_queues_fill, prefix##_queues_control, prefix##_queues_tick
-
 static const struct implementation implementations[] = {
     {"none", ENTRIES_OF(none)},
     {"ours", ENTRIES_OF(router)},
@@ -103,8 +86,10 @@ static const struct implementation implementations[] = {
 };
 #define IMPLEMENTATIONS (sizeof implementations / sizeof *implementations)
 
-enum subject { ROUTER, ENGINE };
-enum kind { FRESH, FILL, CONTROL, IDLE, BUSY };
+enum subject { ROUTER, ENGINE, FAULT_ENTRY };
+enum kind { FRESH, FILL, CONTROL, QUESTIONS, FAULT, IDLE, BUSY };
+
+static const char *const subject_name[] = {"router", "engine", "fault"};
 
 struct scenario {
     const char *name;
@@ -115,12 +100,16 @@ struct scenario {
 
 /*
  * A busy tick brings five packets and sends five; with 251 before, 256 are stored when the ports choose. The engine's
- * are those of the router, by name, and filling.
+ * are those of the router, by name, and filling. Questions alone are those of a control write to a register that there
+ * is not, which is asked about after the state; router_fault has the same states.
  */
 static const struct scenario scenarios[] = {
     {"fresh", ROUTER, FRESH, 0},
     {"control-0", ROUTER, CONTROL, 0},
     {"control-256", ROUTER, CONTROL, 256},
+    {"questions-0", ROUTER, QUESTIONS, 0},
+    {"questions-64", ROUTER, QUESTIONS, 64},
+    {"questions-256", ROUTER, QUESTIONS, 256},
     {"tick-0-idle", ROUTER, IDLE, 0},
     {"tick-64-idle", ROUTER, IDLE, 64},
     {"tick-256-idle", ROUTER, IDLE, 256},
@@ -138,6 +127,9 @@ static const struct scenario scenarios[] = {
     {"queues-tick-0-busy", ENGINE, BUSY, 0},
     {"queues-tick-64-busy", ENGINE, BUSY, 64},
     {"queues-tick-251-busy", ENGINE, BUSY, 251},
+    {"fault-0", FAULT_ENTRY, FAULT, 0},
+    {"fault-64", FAULT_ENTRY, FAULT, 64},
+    {"fault-256", FAULT_ENTRY, FAULT, 256},
 };
 #define SCENARIOS (sizeof scenarios / sizeof *scenarios)
 
@@ -197,7 +189,7 @@ static void copy_first(const struct scenario *scenario)
         memcpy(queues, first_queues, sizeof queues);
 }
 
-static uint8_t call(const struct implementation *router, const struct scenario *scenario)
+static unsigned call(const struct implementation *router, const struct scenario *scenario)
 {
     uint8_t arriving = scenario->kind == BUSY ? ROUTER_MASK_MAX : 0;
 
@@ -211,6 +203,10 @@ static uint8_t call(const struct implementation *router, const struct scenario *
             return router->queues_control(state, sizeof state, memory, sizeof memory, queues, sizeof queues,
                                           ROUTER_REG_IN_ID, CONNECTION);
         return router->control(state, sizeof state, memory, sizeof memory, ROUTER_REG_IN_ID, CONNECTION);
+    case QUESTIONS:
+        return router->control(state, sizeof state, memory, sizeof memory, ROUTER_REGISTERS, 0);
+    case FAULT:
+        return router->fault(state, sizeof state, memory, sizeof memory);
     default:
         if (scenario->subject == ENGINE)
             return router->queues_tick(state, sizeof state, memory, sizeof memory, queues, sizeof queues, arrivals,
@@ -224,9 +220,12 @@ static uint8_t call(const struct implementation *router, const struct scenario *
 /* One call from the prepared areas; the copying is measured alone with "none" and taken off. */
 static void step(const struct implementation *router, const struct scenario *scenario)
 {
+    unsigned wanted = scenario->kind == QUESTIONS ? ROUTER_BAD_REGISTER : ROUTER_ACCEPTED, number;
+
     copy_first(scenario);
-    if (call(router, scenario) != ROUTER_ACCEPTED) {
-        fprintf(stderr, "bench: %s refuses %s\n", router->name, scenario->name);
+    number = call(router, scenario);
+    if (number != wanted && router != implementations) {
+        fprintf(stderr, "bench: %s gives %u in %s\n", router->name, number, scenario->name);
         exit(EXIT_FAILURE);
     }
 }
@@ -362,11 +361,12 @@ int main(int argc, char **argv)
     }
     if (argc == 3 && strcmp(argv[1], "names") == 0) {
         for (unsigned s = 0; s < SCENARIOS; s++) {
-            if (strcmp(argv[2], scenarios[s].subject == ENGINE ? "engine" : "router") == 0)
+            if (strcmp(argv[2], subject_name[scenarios[s].subject]) == 0)
                 puts(scenarios[s].name);
         }
         return EXIT_SUCCESS;
     }
-    fprintf(stderr, "usage: bench count IMPLEMENTATION SCENARIO REPEATS | wall | stack | names router|engine\n");
+    fprintf(stderr, "usage: bench count IMPLEMENTATION SCENARIO REPEATS | wall | stack |\n"
+                    "       names router|engine|fault\n");
     return EXIT_FAILURE;
 }

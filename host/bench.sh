@@ -1,6 +1,7 @@
 #!/bin/sh
-# bench.sh - prints two tables: the router of an archive beside the plain implementation, and the queue engine of
-# another beside the plain one and the router, which is its comparator.
+# bench.sh - prints three tables: the router of an archive beside the plain implementation; the queue engine of another
+# beside the plain one and the router, which is its comparator; and router_fault beside the plain one and the questions
+# of a call.
 # usage: bench.sh [ARCHIVE|plain [SERVICE-ARCHIVE|plain]]   (as for run.sh); LIBS: more to link. Needs valgrind, which
 # counts the instructions.
 set -eu
@@ -19,7 +20,7 @@ engine_entries="queues_fill queues_control queues_tick"
 # compile LEVEL SOURCE: makes an object of a plain implementation with other names.
 compile() {
     names=
-    for entry in $router_entries display $engine_entries; do
+    for entry in $router_entries display fault $engine_entries; do
         names="$names -Dplain_$entry=plain_o$1_$entry"
     done
     gcc $cflags -O$1 -fstack-usage -ffunction-sections $names -c "$here/$2.c" -o "$build/$2_o$1.o"
@@ -106,6 +107,36 @@ frame() {
     awk '{ if ($2 > most) most = $2 } END { print most }' "$build/$1.su"
 }
 
+# code_row ARCHIVE OBJECT ENTRY..: the row of what these entries bring into a program.
+code_row() {
+    sizes "$@"
+    echo "| bytes of code, linked | $ours | $o2 | $o3 | $(ratio "$ours" "$o2") | | | | | | |"
+}
+
+# archive_rows ARCHIVE OBJECT: the rows of an archive and of the objects in its place.
+archive_rows() {
+    echo "| bytes of text, archive or object | $(text "$1") | $(text "$build/$2_o2.o") | $(text "$build/$2_o3.o") | | | | | | | |"
+    echo "| largest frame (-fstack-usage) | | $(frame "$2_o2") | $(frame "$2_o3") | | | | | | | |"
+}
+
+# beside SUBJECT OTHER BEGIN LIKE: a table of the subject's scenarios, each beside that of the router whose name has LIKE
+# in the place of BEGIN.
+beside() {
+    echo "| scenario | $1, instructions | plain -O2 | plain -O3 | $1 / -O2 | $2 | $1 / $2 | $1, stack | plain -O2 | plain -O3 | $2 |"
+    echo "|---|--:|--:|--:|--:|--:|--:|--:|--:|--:|--:|"
+    for scenario in $("$build/bench" names "$1"); do
+        like=$4${scenario#"$3"}
+        count "$scenario"
+        other=$(field "$build/counted" ours "$like")
+        printf '| %s | %s | %s | %s | %s |' "$scenario" "$ours" "$o2" "$o3" "$(ratio "$ours" "$o2")"
+        printf ' %s | %s |' "$other" "$([ -z "$other" ] || ratio "$ours" "$other")"
+        for implementation in ours O2 O3; do
+            printf ' %s |' "$(field "$build/stack" $implementation "$scenario")"
+        done
+        echo " $(field "$build/stack" ours "$like") |"
+    done
+}
+
 "$build/bench" wall > "$build/wall"
 "$build/bench" stack > "$build/stack"
 : > "$build/counted"
@@ -123,28 +154,18 @@ for scenario in $("$build/bench" names router); do
     done
     echo
 done
-sizes "$archive" plain $router_entries
-echo "| bytes of code, linked | $ours | $o2 | $o3 | $(ratio "$ours" "$o2") | | | | | | |"
-echo "| bytes of text, archive or object | $(text "$archive") | $(text "$build/plain_o2.o") | $(text "$build/plain_o3.o") | | | | | | | |"
-echo "| largest frame (-fstack-usage) | | $(frame plain_o2) | $(frame plain_o3) | | | | | | | |"
+code_row "$archive" plain $router_entries
+archive_rows "$archive" plain
 
 echo
 echo "The queue engine beside the comparator, which is the router of the table above:"
 echo
-echo "| scenario | engine, instructions | plain -O2 | plain -O3 | engine / -O2 | comparator | engine / comparator | engine, stack | plain -O2 | plain -O3 | comparator |"
-echo "|---|--:|--:|--:|--:|--:|--:|--:|--:|--:|--:|"
-for scenario in $("$build/bench" names engine); do
-    like=${scenario#queues-}
-    count "$scenario"
-    comparator=$(field "$build/counted" ours "$like")
-    printf '| %s | %s | %s | %s | %s |' "$scenario" "$ours" "$o2" "$o3" "$(ratio "$ours" "$o2")"
-    printf ' %s | %s |' "$comparator" "$([ -z "$comparator" ] || ratio "$ours" "$comparator")"
-    for implementation in ours O2 O3; do
-        printf ' %s |' "$(field "$build/stack" $implementation "$scenario")"
-    done
-    echo " $(field "$build/stack" ours "$like") |"
-done
-sizes "$service" plain_queues $engine_entries
-echo "| bytes of code, linked | $ours | $o2 | $o3 | $(ratio "$ours" "$o2") | | | | | | |"
-echo "| bytes of text, archive or object | $(text "$service") | $(text "$build/plain_queues_o2.o") | $(text "$build/plain_queues_o3.o") | | | | | | | |"
-echo "| largest frame (-fstack-usage) | | $(frame plain_queues_o2) | $(frame plain_queues_o3) | | | | | | | |"
+beside engine comparator queues- ''
+code_row "$service" plain_queues $engine_entries
+archive_rows "$service" plain_queues
+
+echo
+echo "router_fault on sound states beside the questions of a call alone, which are rows of the first table:"
+echo
+beside fault questions fault questions
+code_row "$service" plain_queues fault

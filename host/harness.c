@@ -13,6 +13,7 @@
 #include <unistd.h>
 
 #include "harness.h"
+#include "plain.h"
 
 #define DEFAULT_SEED 1
 
@@ -103,18 +104,6 @@ void section(const char *name, void (*run)(void))
     printf("%s %-46s %8lu calls %5.1f s\n", ok ? "ok  " : "FAIL", name, calls - first,
            (double)(clock() - start) / CLOCKS_PER_SEC);
     fflush(stdout);
-}
-
-void check_occurred(const char *const *name, const unsigned long *occurred, unsigned events)
-{
-    unsigned missing = 0;
-
-    for (unsigned e = 0; e < events; e++) {
-        printf("     %-48s %10lu%s\n", name[e], occurred[e], occurred[e] == 0 ? "   NEVER" : "");
-        missing += occurred[e] == 0;
-    }
-    if (missing != 0)
-        fail("%u of these never occurred", missing);
 }
 
 /* ---- Areas ---- */
@@ -233,7 +222,101 @@ unsigned withdrawn_at(const uint8_t *bytes, unsigned port)
     return bytes[ROUTER_ANSWERS_WITHDRAWN + 2 * port] * 256u + bytes[ROUTER_ANSWERS_WITHDRAWN + 2 * port + 1];
 }
 
+/* ---- The entries ---- */
+
+#define NUMBERS (ROUTER_BAD_QUEUES + 1)
+
+static const char *const number_name[NUMBERS] = {
+    [ROUTER_ACCEPTED] = "accepted", [ROUTER_BAD_LENGTH] = "length",      [ROUTER_BAD_SETTINGS] = "settings",
+    [ROUTER_BAD_STACK] = "stack",   [ROUTER_BAD_PACKETS] = "packets",    [ROUTER_BAD_PORT_MASK] = "mask",
+    [ROUTER_BAD_VALUE] = "value",   [ROUTER_BAD_REGISTER] = "register",  [ROUTER_BAD_QUEUES] = "queues",
+};
+
+#define OF_ALL (SET(ROUTER_ACCEPTED) | SET(ROUTER_BAD_LENGTH))
+#define OF_STATE (OF_ALL | SET(ROUTER_BAD_SETTINGS) | SET(ROUTER_BAD_STACK) | SET(ROUTER_BAD_PACKETS))
+#define OF_CONTROL (OF_STATE | SET(ROUTER_BAD_REGISTER) | SET(ROUTER_BAD_VALUE))
+#define OF_TICK (OF_STATE | SET(ROUTER_BAD_PORT_MASK))
+#define TICK_AREAS (STORE | SET(ARRIVALS) | SET(OUTGOING) | SET(ANSWERS))
+
+const struct entry_form entry_form[ENTRIES] = {
+    [FRESH] = {"fresh", STORE, 0, OF_ALL},
+    [CONTROL] = {"control", STORE, SET(MEMORY), OF_CONTROL},
+    [TICK] = {"tick", TICK_AREAS, SET(ARRIVALS), OF_TICK},
+    [FILL] = {"queues fill", STORE | SET(QUEUES), STORE, OF_STATE},
+    [QUEUES_CONTROL] = {"queues control", STORE | SET(QUEUES), SET(MEMORY) | SET(QUEUES),
+                        OF_CONTROL | SET(ROUTER_BAD_QUEUES)},
+    [QUEUES_TICK] = {"queues tick", TICK_AREAS | SET(QUEUES), SET(ARRIVALS), OF_TICK | SET(ROUTER_BAD_QUEUES)},
+    [FAULT] = {"fault", STORE, STORE, OF_STATE},
+};
+
+static const struct implementation router = {"router", ENTRIES_OF(router)}, plain = {"plain", ENTRIES_OF(plain)};
+
+#define LENT(i) at[i], c->len[i]
+
+static unsigned call(const struct implementation *by, const struct call *c, uint8_t *const *at)
+{
+    switch (c->entry) {
+    case FRESH:
+        return by->fresh(LENT(STATE), LENT(MEMORY), c->first);
+    case CONTROL:
+        return by->control(LENT(STATE), LENT(MEMORY), c->first, c->second);
+    case TICK:
+        return by->tick(LENT(STATE), LENT(MEMORY), LENT(ARRIVALS), LENT(OUTGOING), LENT(ANSWERS), c->first, c->second);
+    case FILL:
+        return by->queues_fill(LENT(STATE), LENT(MEMORY), LENT(QUEUES));
+    case QUEUES_CONTROL:
+        return by->queues_control(LENT(STATE), LENT(MEMORY), LENT(QUEUES), c->first, c->second);
+    case QUEUES_TICK:
+        return by->queues_tick(LENT(STATE), LENT(MEMORY), LENT(QUEUES), LENT(ARRIVALS), LENT(OUTGOING),
+                               LENT(ANSWERS), c->first, c->second);
+    default: /* FAULT */
+        return by->fault(LENT(STATE), LENT(MEMORY));
+    }
+}
+
+/* How often each entry returned each number. */
+static unsigned long returned[ENTRIES][NUMBERS];
+
+static void count_number(const struct call *c, unsigned number)
+{
+    const struct entry_form *form = &entry_form[c->entry];
+
+    if (c->entry == FAULT)
+        number = ROUTER_FAULT_NUMBER(number);
+    if (number >= NUMBERS || (form->numbers >> number & 1) == 0)
+        fail("%s (%u, %u) returns %u", form->name, c->first, c->second, number);
+    returned[c->entry][number]++;
+}
+
+static unsigned print_occurred(const char *name, unsigned long count)
+{
+    printf("     %-48s %10lu%s\n", name, count, count == 0 ? "   NEVER" : "");
+    return count == 0;
+}
+
+void check_occurred(unsigned entries, const char *const *name, const unsigned long *occurred, unsigned events)
+{
+    unsigned missing = 0;
+
+    for (unsigned e = 0; e < ENTRIES; e++) {
+        for (unsigned k = 0; k < NUMBERS; k++) {
+            char text[64];
+
+            if ((entries >> e & 1) == 0 || (entry_form[e].numbers >> k & 1) == 0)
+                continue;
+            snprintf(text, sizeof text, "%s: %u %s", entry_form[e].name, k, number_name[k]);
+            missing += print_occurred(text, returned[e][k]);
+        }
+    }
+    for (unsigned e = 0; e < events; e++)
+        missing += print_occurred(name[e], occurred[e]);
+    if (missing != 0)
+        fail("%u of these never occurred", missing);
+}
+
 /* ---- Calls ---- */
+
+enum subject subject;
 
 struct call make_call(enum entry entry, unsigned first, unsigned second)
 {
@@ -264,18 +347,18 @@ void differs(const struct call *c, enum area i, const uint8_t *got, const uint8_
          area_name[i], at, got[at], expected[at]);
 }
 
-uint8_t call_counted(const struct call *c, uint8_t *const *at)
+unsigned call_router(const struct call *c, uint8_t *const *at)
 {
     calls++;
-    return call_router(c, at);
+    return call(&router, c, at);
 }
 
-uint8_t call_both(const struct call *c)
+unsigned call_both(const struct call *c)
 {
     const struct entry_form *form = &entry_form[c->entry];
     unsigned ends = below(SET(AREAS));
     uint8_t *lent[AREAS] = {NULL}, *own[AREAS];
-    uint8_t expected, number;
+    unsigned expected, number;
 
     for (unsigned i = 0; i < AREAS; i++) {
         own[i] = area[i];
@@ -284,34 +367,36 @@ uint8_t call_both(const struct call *c)
         lent[i] = lend(c->entry, i, area[i], c->len[i], ends >> i & 1);
         memcpy(before[i], area[i], c->len[i]);
     }
-    expected = call_plain(c, own);
-    number = call_counted(c, lent);
+    expected = call(&plain, c, own);
+    number = call_router(c, lent);
     if (number != expected)
         fail("%s (%u, %u): number is %u and should be %u", form->name, c->first, c->second, number, expected);
     for (unsigned i = 0; i < AREAS; i++) {
-        const uint8_t *should = number == ROUTER_ACCEPTED ? area[i] : before[i];
+        int written = number == ROUTER_ACCEPTED && (form->only_read >> i & 1) == 0;
+        const uint8_t *should = written ? area[i] : before[i];
 
         if ((form->lent >> i & 1) == 0)
             continue;
         if (memcmp(lent[i], should, c->len[i]) != 0)
             differs(c, i, lent[i], should);
         if (memcmp(area[i], should, c->len[i]) != 0)
-            fail("the plain implementation changes %s in a refused call", area_name[i]);
+            fail("the plain %s (%u, %u) changes %s, number %u", form->name, c->first, c->second, area_name[i], number);
     }
+    count_number(c, number);
     after_call(c, number);
     return number;
 }
 
-uint8_t control(unsigned reg, unsigned value)
+unsigned control(unsigned reg, unsigned value)
 {
-    struct call c = make_call(CONTROL, reg, value);
+    struct call c = make_call(subject == ENGINE ? QUEUES_CONTROL : CONTROL, reg, value);
 
     return call_both(&c);
 }
 
-uint8_t tick(unsigned arrivals_mask, unsigned best_effort_mask)
+unsigned tick(unsigned arrivals_mask, unsigned best_effort_mask)
 {
-    struct call c = make_call(TICK, arrivals_mask, best_effort_mask);
+    struct call c = make_call(subject == ENGINE ? QUEUES_TICK : TICK, arrivals_mask, best_effort_mask);
 
     memset(area[OUTGOING], random_byte(), ROUTER_OUTGOING_LEN);
     memset(answers, random_byte(), ROUTER_ANSWERS_LEN);
@@ -491,9 +576,9 @@ void random_call(const struct regime *r)
     tick(first, second);
 }
 
-void damage(void)
+void damage(unsigned changes)
 {
-    for (unsigned changes = below(4); changes > 0; changes--) {
+    for (; changes > 0; changes--) {
         uint8_t *byte = chance(90) ? state + below(ROUTER_STATE_LEN) : memory + below(ROUTER_MEMORY_LEN);
 
         *byte = (uint8_t)(chance(50) ? random_byte() : *byte ^ 1u << below(8));
@@ -503,21 +588,20 @@ void damage(void)
 /* ---- Tests of single calls ---- */
 
 /* All else is right, or all else is wrong too. */
-void try_length(enum entry entry, enum area i, size_t len, void (*ready)(unsigned))
+static void try_length(enum entry entry, enum area i, size_t len)
 {
     for (unsigned damaged = 0; damaged < 2; damaged++) {
         struct call c = make_call(entry, damaged ? 255 : 1, damaged ? 255 : 1);
 
         c.len[i] = len;
-        ready(below(257));
         state[ROUTER_STATE_HORIZONS] ^= (uint8_t)(damaged << 7);
         expect("wrong length", call_both(&c), ROUTER_BAD_LENGTH);
         state[ROUTER_STATE_HORIZONS] ^= (uint8_t)(damaged << 7);
     }
 }
 
-/* A length that is right in its low 16 or 32 bits; the area is as long as that, and read-only. */
-static void long_area(enum entry entry, enum area i, size_t more, void (*ready)(unsigned))
+/* A length that is right in its low 8, 16 or 32 bits; the area is as long as that, and read-only. */
+static void long_area(enum entry entry, enum area i, size_t more)
 {
     struct call c = make_call(entry, 1, 1);
     size_t len = area_len[i] + more;
@@ -526,12 +610,11 @@ static void long_area(enum entry entry, enum area i, size_t more, void (*ready)(
 
     if (map == MAP_FAILED)
         fail("no area of %zu bytes", len);
-    ready(below(257));
     for (unsigned k = 0; k < AREAS; k++)
         lent[k] = lend(entry, k, area[k], area_len[k], 1);
     c.len[i] = len;
     lent[i] = map;
-    expect("long area", call_counted(&c, lent), ROUTER_BAD_LENGTH);
+    expect("long area", call_router(&c, lent), ROUTER_BAD_LENGTH);
     for (unsigned k = 0; k < AREAS; k++) {
         if (k != i && memcmp(lent[k], area[k], area_len[k]) != 0)
             fail("%s changed in a call with a long area", area_name[k]);
@@ -539,34 +622,29 @@ static void long_area(enum entry entry, enum area i, size_t more, void (*ready)(
     munmap(map, len);
 }
 
-void try_lengths(void (*ready)(unsigned))
+void try_lengths(enum entry entry, void (*ready)(unsigned))
 {
-    for (unsigned entry = MAKE; entry < ENTRIES; entry++) {
-        for (unsigned i = 0; i < AREAS; i++) {
-            size_t right = area_len[i];
-            size_t wrong[] = {0, 1, 2, right / 2, right - 1, right + 1, right + 2, 2 * right, right + 256,
-                              area_len[0], area_len[1], area_len[2], area_len[4]};
+    struct call none = {entry, {0}, 0, 0};
 
-            if ((entry_form[entry].lent >> i & 1) == 0)
-                continue;
-            for (unsigned k = 0; k < sizeof wrong / sizeof *wrong; k++) {
-                if (wrong[k] != right)
-                    try_length(entry, i, wrong[k], ready);
-            }
-            for (unsigned k = 0; k < 100; k++) {
-                size_t len = below(2 * (unsigned)right);
-
-                if (len != right)
-                    try_length(entry, i, len, ready);
-            }
-            long_area(entry, i, (size_t)1 << 16, ready);
-            if (SIZE_MAX > UINT32_MAX)
-                long_area(entry, i, (size_t)UINT32_MAX + 1, ready);
+    for (unsigned i = 0; i < AREAS; i++) {
+        if ((entry_form[entry].lent >> i & 1) == 0)
+            continue;
+        for (size_t len = 0; len <= 2 * area_len[i]; len++) {
+            if (len % 64 == 0)
+                ready(below(257));
+            if (len != area_len[i])
+                try_length(entry, i, len);
         }
-        struct call c = {entry, {0}, 0, 0};
-
-        expect("all lengths zero", call_both(&c), ROUTER_BAD_LENGTH);
+        for (unsigned k = 0; k < AREAS; k++) {
+            if (area_len[k] != area_len[i])
+                try_length(entry, i, area_len[k]);
+        }
+        long_area(entry, i, (size_t)1 << 8);
+        long_area(entry, i, (size_t)1 << 16);
+        if (SIZE_MAX > UINT32_MAX)
+            long_area(entry, i, (size_t)UINT32_MAX + 1);
     }
+    expect("all lengths zero", call_both(&none), ROUTER_BAD_LENGTH);
 }
 
 void try_masks(void (*ready)(unsigned))

@@ -8,7 +8,7 @@
 #ifndef HARNESS_H
 #define HARNESS_H
 
-#include "router.h"
+#include "entries.h"
 
 /* ---- Random numbers ---- */
 
@@ -31,8 +31,8 @@ void section(const char *name, void (*run)(void));
 void fail(const char *format, ...);
 void expect(const char *what, unsigned got, unsigned should);
 
-/* Prints how often each event occurred; fails if one never did. */
-void check_occurred(const char *const *name, const unsigned long *occurred, unsigned events);
+/* Prints how often each number of these entries, a set, and each event occurred; fails if one never did. */
+void check_occurred(unsigned entries, const char *const *name, const unsigned long *occurred, unsigned events);
 
 /* Prints the last line; returns the exit status. */
 int finish(const char *program);
@@ -41,7 +41,7 @@ int finish(const char *program);
 
 enum area { STATE, MEMORY, ARRIVALS, OUTGOING, ANSWERS, QUEUES, AREAS };
 
-#define SET(i) (1u << (i)) /* sets of areas */
+#define SET(i) (1u << (i)) /* sets of areas, of entries and of numbers */
 #define STORE (SET(STATE) | SET(MEMORY))
 
 #define LEN_MAX (2 * ROUTER_MEMORY_LEN) /* of the areas tried; longer ones are lent to calls that may not touch them */
@@ -73,8 +73,8 @@ unsigned withdrawn_at(const uint8_t *bytes, unsigned port);
 
 /* ---- Calls ---- */
 
-/* The entry that makes something from nothing is router_fresh or router_queues_fill. */
-enum entry { MAKE, CONTROL, TICK, ENTRIES };
+/* The entries that put questions, of both archives. */
+enum entry { FRESH, CONTROL, TICK, FILL, QUEUES_CONTROL, QUEUES_TICK, FAULT, ENTRIES };
 
 struct call {
     enum entry entry;
@@ -85,15 +85,16 @@ struct call {
 struct entry_form {
     const char *name;
     unsigned lent, only_read; /* sets of areas */
+    unsigned numbers;         /* the set of those that it can return */
 };
 
-/* Of each test program: its entries, their calls with areas that start at `at`, and what to look at after a call. */
 extern const struct entry_form entry_form[ENTRIES];
-uint8_t call_router(const struct call *c, uint8_t *const *at);
-uint8_t call_plain(const struct call *c, uint8_t *const *at);
-void after_call(const struct call *c, uint8_t number);
 
-#define LENT(i) at[i], c->len[i]
+/* Whose control writes and ticks the harness calls: the router's, or those of the queue engine. */
+extern enum subject { ROUTER, ENGINE } subject;
+
+/* Of each test program: what to look at after a call of both implementations. */
+void after_call(const struct call *c, unsigned number);
 
 struct call make_call(enum entry entry, unsigned first, unsigned second);
 
@@ -103,14 +104,14 @@ uint8_t *lend(enum entry entry, enum area i, const uint8_t *bytes, size_t len, i
 /* Fails, naming the first byte in which an area is not as expected. */
 void differs(const struct call *c, enum area i, const uint8_t *got, const uint8_t *expected);
 
-/* Calls the implementation under test alone. */
-uint8_t call_counted(const struct call *c, uint8_t *const *at);
+/* Calls the implementation under test alone, with areas that start at `at`. */
+unsigned call_router(const struct call *c, uint8_t *const *at);
 
 /* Calls both with the content of `area`, and compares number and areas; returns the number. */
-uint8_t call_both(const struct call *c);
+unsigned call_both(const struct call *c);
 
-uint8_t control(unsigned reg, unsigned value);
-uint8_t tick(unsigned arrivals_mask, unsigned best_effort_mask); /* outgoing and answers are random before it */
+unsigned control(unsigned reg, unsigned value);
+unsigned tick(unsigned arrivals_mask, unsigned best_effort_mask); /* outgoing and answers are random before it */
 
 /* ---- Makers of states, packets and calls ---- */
 
@@ -141,13 +142,12 @@ void random_arrivals(const struct regime *r); /* one for each port of `area` */
 /* A control write or a tick. */
 void random_call(const struct regime *r);
 
-/* Changes up to three random bytes, mostly of the state, else of the memory. */
-void damage(void);
+/* Changes so many random bytes, mostly of the state, else of the memory. */
+void damage(unsigned changes);
 
 /* ---- Tests of single calls, from areas that `ready` makes for so many packets ---- */
 
-void try_length(enum entry entry, enum area i, size_t len, void (*ready)(unsigned));
-void try_lengths(void (*ready)(unsigned));
+void try_lengths(enum entry entry, void (*ready)(unsigned));
 void try_masks(void (*ready)(unsigned));
 void try_registers(void (*ready)(unsigned));
 

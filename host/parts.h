@@ -1,5 +1,5 @@
 /*
- * parts.h - what the plain implementations of the router and of its queue engine share: fields of the state, the
+ * parts.h - what the plain implementations of the router and of the service entries share: fields of the state, the
  * questions, control writes, and those steps of a tick that choose nothing.
  */
 #ifndef PARTS_H
@@ -30,7 +30,7 @@ static size_t slot_at(unsigned s)
     return ROUTER_STATE_SLOTS + ROUTER_SLOT_LEN * s;
 }
 
-/* ---- Question 2: is the state sound? ---- */
+/* ---- Questions 13 to 15: is the state sound? ---- */
 
 /* Horizons, registers and connection table are in range. A limit is all ones, so an `or` of the bytes will do. */
 static inline int settings_sound(const uint8_t *state)
@@ -65,41 +65,53 @@ static int packet_sound(const uint8_t *slot, const uint8_t *packet, uint8_t t)
 }
 
 /*
- * The first n stack entries are the empty slots, each once, and the stored packets are in range. If the entries
- * mark exactly the empty slots and there are n of these, no entry stands twice.
+ * The fault of stack or packets, if any. The first n stack entries are to be the empty slots, each once: if they mark
+ * exactly the empty slots and there are n of these, no entry stands twice. After a bad packet the pass goes on, for a
+ * fault of the stack comes first.
  */
-static inline int slots_sound(const uint8_t *state, const uint8_t *memory)
+static inline unsigned slots_fault(const uint8_t *state, const uint8_t *memory)
 {
     const uint8_t *stack = state + ROUTER_STATE_STACK;
-    const uint8_t *slot = state + ROUTER_STATE_SLOTS;
+    const uint8_t *slots = state + ROUTER_STATE_SLOTS, *slot = slots;
+    const uint8_t *bad = NULL; /* the lowest slot with a bad packet */
     uint8_t t = state[ROUTER_STATE_CLOCK];
     uint8_t idle[ROUTER_SLOTS];
     unsigned n = free_count(state);
     unsigned empty = 0;
 
     if (n > ROUTER_SLOTS)
-        return 0;
+        return ROUTER_BAD_STACK;
     memset(idle, 0, sizeof idle);
     for (unsigned i = 0; i < n; i++)
         idle[stack[i]] = 1;
     for (unsigned s = 0; s < ROUTER_SLOTS; s++) {
         if (slot[ROUTER_SLOT_MASK] == 0) {
             if (!idle[s])
-                return 0;
+                return ROUTER_BAD_STACK;
             empty++;
-        } else if (idle[s] || !packet_sound(slot, memory, t)) {
-            return 0;
+        } else if (idle[s]) {
+            return ROUTER_BAD_STACK;
+        } else if (!packet_sound(slot, memory, t) && bad == NULL) {
+            bad = slot;
         }
         slot += ROUTER_SLOT_LEN;
         memory += ROUTER_PACKET_LEN;
     }
-    return empty == n;
+    if (empty != n)
+        return ROUTER_BAD_STACK;
+    return bad == NULL ? ROUTER_ACCEPTED : ROUTER_BAD_PACKETS + 256 * (unsigned)((bad - slots) / ROUTER_SLOT_LEN);
 }
 
-/* Its two parts are inline, so that gcc makes one function of them. */
-static int sound(const uint8_t *state, const uint8_t *memory)
+/* The first fault, as router_fault tells it. Its two parts are inline, so that gcc makes one function of them. */
+static unsigned first_fault(const uint8_t *state, const uint8_t *memory)
 {
-    return settings_sound(state) && slots_sound(state, memory);
+    return settings_sound(state) ? slots_fault(state, memory) : ROUTER_BAD_SETTINGS;
+}
+
+/* Its number alone, as the other entries return it. */
+static uint8_t soundness_number(const uint8_t *state, const uint8_t *memory)
+{
+    return (uint8_t)ROUTER_FAULT_NUMBER(first_fault(state, memory));
 }
 
 /* ---- The other questions ---- */

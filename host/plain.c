@@ -86,9 +86,9 @@ uint8_t plain_control(uint8_t *state, size_t state_len,
 
     if (!store_full(state_len, memory_len))
         return ROUTER_BAD_LENGTH;
-    if (!sound(state, memory))
-        return ROUTER_BAD_STATE;
-    number = register_number(reg, value);
+    number = soundness_number(state, memory);
+    if (number == ROUTER_ACCEPTED)
+        number = register_number(reg, value);
     if (number == ROUTER_ACCEPTED)
         write_register(state, reg, value);
     return number;
@@ -108,9 +108,9 @@ uint8_t plain_tick(uint8_t *state, size_t state_len,
 
     if (!store_full(state_len, memory_len) || !areas_full(arrivals_len, outgoing_len, answers_len))
         return ROUTER_BAD_LENGTH;
-    if (!sound(state, memory))
-        return ROUTER_BAD_STATE;
-    number = masks_number(arrivals_mask, best_effort_mask);
+    number = soundness_number(state, memory);
+    if (number == ROUTER_ACCEPTED)
+        number = masks_number(arrivals_mask, best_effort_mask);
     if (number != ROUTER_ACCEPTED)
         return number;
 

@@ -22,6 +22,9 @@ uint8_t plain_tick(uint8_t *state, size_t state_len,
 size_t plain_display(const uint8_t *outgoing, size_t outgoing_len, uint8_t port);
 
 /* Of plain_queues.c. */
+uint16_t plain_fault(const uint8_t *state, size_t state_len,
+                     const uint8_t *memory, size_t memory_len);
+
 uint8_t plain_queues_fill(const uint8_t *state, size_t state_len,
                           const uint8_t *memory, size_t memory_len,
                           uint8_t *queues, size_t queues_len);

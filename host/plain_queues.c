@@ -1,7 +1,8 @@
 /*
- * plain_queues.c - the plain implementation of the queue engine: the three queues of document 001, Table 1, for each
- * port, kept in the lent bytes and chosen from by their first entries alone. The queues may have any content: where
- * they are not those of the state, too, every byte after a call is that of the definitions (crates/queues/specs).
+ * plain_queues.c - the plain implementation of the service entries: the fault of a state, and the queue engine, with
+ * the three queues of document 001, Table 1, for each port, kept in the lent bytes and chosen from by their first
+ * entries alone. The queues may have any content: where they are not those of the state, too, every byte after a call
+ * is that of the definitions (crates/queues/specs).
  */
 
 #include "parts.h"
@@ -198,14 +199,25 @@ static void move_over(uint8_t *early, uint8_t *on_time, const uint8_t *state)
 
 /* ---- The entries ---- */
 
+uint16_t plain_fault(const uint8_t *state, size_t state_len,
+                     const uint8_t *memory, size_t memory_len)
+{
+    if (!store_full(state_len, memory_len))
+        return ROUTER_BAD_LENGTH;
+    return (uint16_t)first_fault(state, memory);
+}
+
 uint8_t plain_queues_fill(const uint8_t *state, size_t state_len,
                           const uint8_t *memory, size_t memory_len,
                           uint8_t *queues, size_t queues_len)
 {
+    uint8_t number;
+
     if (!store_full(state_len, memory_len) || queues_len != ROUTER_QUEUES_LEN)
         return ROUTER_BAD_LENGTH;
-    if (!sound(state, memory))
-        return ROUTER_BAD_STATE;
+    number = soundness_number(state, memory);
+    if (number != ROUTER_ACCEPTED)
+        return number;
 
     memset(queues, 0, ROUTER_QUEUES_LEN);
     for (unsigned s = 0; s < ROUTER_SLOTS; s++)
@@ -222,9 +234,9 @@ uint8_t plain_queues_control(uint8_t *state, size_t state_len,
 
     if (!store_full(state_len, memory_len) || queues_len != ROUTER_QUEUES_LEN)
         return ROUTER_BAD_LENGTH;
-    if (!sound(state, memory))
-        return ROUTER_BAD_STATE;
-    number = register_number(reg, value);
+    number = soundness_number(state, memory);
+    if (number == ROUTER_ACCEPTED)
+        number = register_number(reg, value);
     if (number != ROUTER_ACCEPTED)
         return number;
     if (!fitting(state, queues))
@@ -249,9 +261,9 @@ uint8_t plain_queues_tick(uint8_t *state, size_t state_len,
     if (!store_full(state_len, memory_len) || queues_len != ROUTER_QUEUES_LEN ||
         !areas_full(arrivals_len, outgoing_len, answers_len))
         return ROUTER_BAD_LENGTH;
-    if (!sound(state, memory))
-        return ROUTER_BAD_STATE;
-    number = masks_number(arrivals_mask, best_effort_mask);
+    number = soundness_number(state, memory);
+    if (number == ROUTER_ACCEPTED)
+        number = masks_number(arrivals_mask, best_effort_mask);
     if (number != ROUTER_ACCEPTED)
         return number;
     if (!fitting(state, queues))

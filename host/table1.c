@@ -6,19 +6,19 @@
  */
 
 #include <ctype.h>
-#include <errno.h>
-#include <stdarg.h>
-#include <stdio.h>
 #include <stdlib.h>
 #include <string.h>
 
+#include "dump.h"
 #include "record.h"
-#include "router.h"
 
 #define MARGIN 19 /* columns for a queue's name and size */
 #define CELLS 5   /* packets on a line, of at most 12 columns each */
 
-static uint8_t state[ROUTER_STATE_LEN], memory[ROUTER_MEMORY_LEN], queues[ROUTER_QUEUES_LEN];
+const char *const program = "table1";
+const int stop_status = EXIT_FAILURE;
+
+static uint8_t queues[ROUTER_QUEUES_LEN];
 
 /* What a tape tells besides: a dump has no records, and says nothing of best-effort traffic. */
 static long records = -1, refused;
@@ -27,53 +27,7 @@ static unsigned waiting;          /* ports with a packet for the coming tick */
 static uint8_t arrivals[ROUTER_ARRIVALS_LEN];
 static int best_effort_mask = -1; /* of the last tick */
 
-static void stop(const char *format, ...)
-{
-    va_list list;
-
-    fflush(stdout);
-    fprintf(stderr, "table1: ");
-    va_start(list, format);
-    vfprintf(stderr, format, list);
-    va_end(list);
-    fprintf(stderr, "\n");
-    exit(EXIT_FAILURE);
-}
-
-static FILE *open_file(const char *name)
-{
-    FILE *file = fopen(name, "rb");
-
-    if (file == NULL)
-        stop("%s can't be opened: %s", name, strerror(errno));
-    return file;
-}
-
-/* Reads up to len bytes; says how many. */
-static size_t read_some(FILE *file, const char *name, uint8_t *bytes, size_t len)
-{
-    size_t got = fread(bytes, 1, len, file);
-
-    if (ferror(file))
-        stop("%s can't be read: %s", name, strerror(errno));
-    return got;
-}
-
-/* ---- Where the router comes from ---- */
-
-static void take_dump(const char *name)
-{
-    FILE *file = open_file(name);
-    uint8_t more;
-    size_t got = read_some(file, name, state, sizeof state);
-
-    got += read_some(file, name, memory, sizeof memory);
-    if (got != sizeof state + sizeof memory)
-        stop("%s has %zu bytes, and a dump has %zu", name, got, sizeof state + sizeof memory);
-    if (read_some(file, name, &more, 1) != 0)
-        stop("%s has more bytes than a dump, which has %zu", name, sizeof state + sizeof memory);
-    fclose(file);
-}
+/* ---- The tape ---- */
 
 /* A record does to the router what it does in the program `tape`; returns 0 or its refusal. */
 static unsigned take_record(const uint8_t *record)
@@ -123,11 +77,6 @@ static void take_tape(const char *name, long wanted)
 
 /* ---- The table ---- */
 
-static const uint8_t *slot_at(unsigned s)
-{
-    return state + ROUTER_STATE_SLOTS + ROUTER_SLOT_LEN * s;
-}
-
 static void print_queue(const char *label, unsigned port, unsigned sort)
 {
     const uint8_t *queue = queues + ROUTER_QUEUE_LEN * (2 * port + sort);
@@ -145,15 +94,13 @@ static void print_queue(const char *label, unsigned port, unsigned sort)
         else if (i > 0 && *mark == '\0')
             printf(" ");
         mark = sort == ROUTER_QUEUE_EARLY && key <= state[ROUTER_STATE_HORIZONS + port] ? "*" : "";
-        printf(" %3u:%02X %3u%s", s, memory[ROUTER_PACKET_LEN * s + ROUTER_PACKET_ID], key, mark);
+        printf(" %3u:%02X %3u%s", s, packet_at(s)[ROUTER_PACKET_ID], key, mark);
     }
     printf("\n");
 }
 
 static void print_heading(const char *name)
 {
-    unsigned free_slots = state[ROUTER_STATE_FREE] * 256u + state[ROUTER_STATE_FREE + 1];
-
     printf("Table 1 of %s\n", name);
     if (records >= 0)
         printf("after record %ld, with %ld refused\n", records, refused);
@@ -167,8 +114,8 @@ static void print_heading(const char *name)
         }
         printf("\n");
     }
-    printf("clock %u, %u packets stored, %u slots free\n\n", state[ROUTER_STATE_CLOCK], ROUTER_SLOTS - free_slots,
-           free_slots);
+    printf("clock %u, %u packets stored, %u slots free\n\n", state[ROUTER_STATE_CLOCK],
+           ROUTER_SLOTS - free_count(), free_count());
     printf("Of each queue how many wait, and, first ones first, SLOT:ID KEY of each.\n"
            "ID is the outgoing identifier, in hex. KEY counts ticks: on time to the\n"
            "deadline, early to the logical arrival time; * is within the horizon.\n");
@@ -201,9 +148,10 @@ int main(int argc, char **argv)
         take_dump(name);
     number = router_queues_fill(state, sizeof state, memory, sizeof memory, queues, sizeof queues);
     if (number != ROUTER_ACCEPTED)
-        stop("%s: the state is not sound (number %u)", name, number);
+        stop("%s: the state is not sound (number %u); the program fault says where", name, number);
     print_heading(name);
     for (unsigned p = 0; p < ROUTER_PORTS; p++)
         print_port(p);
-    return fflush(stdout) != 0 || ferror(stdout) ? EXIT_FAILURE : EXIT_SUCCESS;
+    end_output();
+    return EXIT_SUCCESS;
 }

@@ -7,6 +7,6 @@ build=$(mktemp -d)
 trap 'rm -rf "$build"' EXIT
 archive=$(sh "$here/archive.sh" "$build")
 service=$(sh "$here/archive.sh" "$build" '' service)
-gcc -std=c99 -Wall -Wextra -Wpedantic -Werror -O2 -I"$here/../include" "$here/table1.c" "$here/record.c" \
-    "$service" "$archive" -o "$build/table1"
+gcc -std=c99 -Wall -Wextra -Wpedantic -Werror -O2 -I"$here/../include" "$here/table1.c" "$here/dump.c" \
+    "$here/record.c" "$service" "$archive" -o "$build/table1"
 "$build/table1" "$@"

@@ -6,13 +6,14 @@
  * the packet memory; it keeps no variable and no pointer of its own, allocates nothing and calls nobody back.
  * A board makes the two areas fresh once, opens connections with control writes, and then calls a tick once per
  * packet time; display software finds the data of a port with router_display. The service bench may run the queue
- * engine in their place (see THE QUEUE ENGINE): the same router, with every port's queues in a third area.
+ * engine in their place (see THE QUEUE ENGINE): the same router, with every port's queues in a third area. When a board
+ * refuses its calls because its state is not sound, router_fault says which part is bad, and which slot.
  *
  *
  * LINKING
  *
  * `rt staticlib router` proves the library and writes target/staticlib/librouter.a with router_fresh, router_control,
- * router_tick and router_display; `rt staticlib service` does so for target/staticlib/libservice.a with
+ * router_tick and router_display; `rt staticlib service` does so for target/staticlib/libservice.a with router_fault,
  * router_queues_fill, router_queues_control and router_queues_tick. A board links the first alone; neither needs the
  * other, and a program may link both. They are code for Linux on any x86-64 processor, by the System V calling
  * convention, and need memcpy (the first) and memset, and nothing else: no start-up code, no heap, no other function.
@@ -35,9 +36,9 @@
  * ANSWERS AND REFUSALS
  *
  * Each call but router_display returns one number: ROUTER_ACCEPTED (0), or the number of the first question, in the
- * order of the list "Numbers" below, that the call does not pass. A refused call changes nothing: each byte of each
- * area is as it was, outgoing packets and answers included. The number and every byte of every area after a call
- * depend on nothing but the numbers and the bytes handed over.
+ * order of the list "Numbers" below, that the call does not pass; router_fault can add a slot to it. A refused call
+ * changes nothing: each byte of each area is as it was, outgoing packets and answers included. The number and every
+ * byte of every area after a call depend on nothing but the numbers and the bytes handed over.
  *
  *
  * TIMES
@@ -61,8 +62,8 @@ extern "C" {
  * a call does, returns or needs, or with the layout of an area, so that a caller has to look; the second with what is
  * only added; the third with anything else.
  */
-#define ROUTER_VERSION_MAJOR 1
-#define ROUTER_VERSION_MINOR 1
+#define ROUTER_VERSION_MAJOR 2
+#define ROUTER_VERSION_MINOR 0
 #define ROUTER_VERSION_PATCH 0
 #define ROUTER_VERSION (ROUTER_VERSION_MAJOR * 10000 + ROUTER_VERSION_MINOR * 100 + ROUTER_VERSION_PATCH)
 
@@ -135,7 +136,9 @@ extern "C" {
 /* Numbers returned by a call, in the order in which the questions are put. */
 #define ROUTER_ACCEPTED 0
 #define ROUTER_BAD_LENGTH 1      /* an area does not have its length */
-#define ROUTER_BAD_STATE 2       /* state and memory are not sound (see SOUND); not asked by router_fresh */
+#define ROUTER_BAD_SETTINGS 13   /* the settings are not sound (see SOUND, for the next two also) */
+#define ROUTER_BAD_STACK 14      /* the idle-address stack or the free count is not sound */
+#define ROUTER_BAD_PACKETS 15    /* a stored packet is not sound */
 #define ROUTER_BAD_PORT_MASK 3   /* tick: a mask is above ROUTER_MASK_MAX */
 #define ROUTER_BAD_REGISTER 4    /* control: there is no such register */
 #define ROUTER_BAD_VALUE 5       /* control: the value does not fit the register */
@@ -155,12 +158,24 @@ extern "C" {
 #define ROUTER_PORT_EARLY 3
 
 /*
- * SOUND. A state and its memory are sound if
- *   - n is at most 256, the first n stack entries differ from each other, and they are exactly the empty slots;
- *   - every mask (slots, table, registers 2 and 4) is at most ROUTER_MASK_MAX;
- *   - every d (table, register 1) is at most ROUTER_DELAY_MAX, every horizon at most ROUTER_HORIZON_MAX;
- *   - for each slot that is not empty, d = deadline - time is at most ROUTER_DELAY_MAX, the offset of its time
- *     is -d to 126, and the byte ROUTER_PACKET_TIME of its memory equals its deadline.
+ * SOUND. A state and its memory are sound if three parts of them are. Every call but router_fresh and router_display
+ * asks about these in this order; each has its number:
+ *
+ *   ROUTER_BAD_SETTINGS: the settings.
+ *     - In each entry of the connection table d is at most ROUTER_DELAY_MAX and the mask at most ROUTER_MASK_MAX.
+ *     - Each horizon is at most ROUTER_HORIZON_MAX.
+ *     - Register 1 is at most ROUTER_DELAY_MAX, and registers 2 and 4 are at most ROUTER_MASK_MAX.
+ *   ROUTER_BAD_STACK: the idle-address stack and the free count.
+ *     - n is at most 256.
+ *     - The first n stack entries differ from each other.
+ *     - They are exactly the empty slots. A slot is empty if its mask is 0; other masks are all alike here.
+ *   ROUTER_BAD_PACKETS: the stored packets, in the slots that are not empty.
+ *     - The mask is at most ROUTER_MASK_MAX.
+ *     - d = deadline - time is at most ROUTER_DELAY_MAX.
+ *     - The offset of the time is -d to 126.
+ *     - The byte ROUTER_PACKET_TIME of the slot's memory equals the deadline.
+ *
+ * So a mask of 32 is a fault of the stack if its slot is among the first n stack entries, and else of the packets.
  * Nothing else matters: the stack from entry n on, the other bytes of an empty slot and of its memory, and all
  * identifiers and data may be anything. router_fresh makes them sound, and every accepted call keeps them so.
  * The clock byte is the router's: to set it on a router that holds packets makes the state unsound in general.
@@ -192,7 +207,8 @@ uint8_t router_fresh(uint8_t *state, size_t state_len,
  * The router limits d and horizons each alone. Whoever chooses them keeps their sum below 128 on each port: a packet
  * sent far ahead of its time must still be less than half a turn of the clock early at the next board.
  *
- * Returns ROUTER_ACCEPTED, ROUTER_BAD_LENGTH, ROUTER_BAD_STATE, ROUTER_BAD_REGISTER or ROUTER_BAD_VALUE.
+ * Returns ROUTER_ACCEPTED, ROUTER_BAD_LENGTH, ROUTER_BAD_SETTINGS, ROUTER_BAD_STACK, ROUTER_BAD_PACKETS,
+ * ROUTER_BAD_REGISTER or ROUTER_BAD_VALUE.
  */
 uint8_t router_control(uint8_t *state, size_t state_len,
                        const uint8_t *memory, size_t memory_len,
@@ -222,7 +238,8 @@ uint8_t router_control(uint8_t *state, size_t state_len,
  *      and their memory stay.
  *   6. The clock advances by 1 and turns over after 255.
  *
- * Returns ROUTER_ACCEPTED, ROUTER_BAD_LENGTH, ROUTER_BAD_STATE or ROUTER_BAD_PORT_MASK.
+ * Returns ROUTER_ACCEPTED, ROUTER_BAD_LENGTH, ROUTER_BAD_SETTINGS, ROUTER_BAD_STACK, ROUTER_BAD_PACKETS or
+ * ROUTER_BAD_PORT_MASK.
  */
 uint8_t router_tick(uint8_t *state, size_t state_len,
                     uint8_t *memory, size_t memory_len,
@@ -242,6 +259,27 @@ uint8_t router_tick(uint8_t *state, size_t state_len,
  *         show(outgoing + start, ROUTER_DATA_LEN);
  */
 size_t router_display(const uint8_t *outgoing, size_t outgoing_len, uint8_t port);
+
+/*
+ * router_fault, of libservice.a, says which part of a state and its memory is not sound.
+ *
+ * Reads state and memory, and only reads them.
+ *
+ * Returns ROUTER_ACCEPTED if they are sound, ROUTER_BAD_LENGTH, ROUTER_BAD_SETTINGS, ROUTER_BAD_STACK, or
+ * ROUTER_BAD_PACKETS + 256 * s, where s is the lowest slot whose packet is not sound. Other calls return the number
+ * without the slot. The two are taken apart by
+ *
+ *     uint16_t fault = router_fault(state, sizeof state, memory, sizeof memory);
+ *
+ *     if (ROUTER_FAULT_NUMBER(fault) == ROUTER_BAD_PACKETS)
+ *         show(ROUTER_FAULT_SLOT(fault));
+ *
+ * The program host/fault.c says in a sentence which rule is broken, and where.
+ */
+#define ROUTER_FAULT_NUMBER(fault) ((fault) % 256)
+#define ROUTER_FAULT_SLOT(fault) ((fault) / 256)
+uint16_t router_fault(const uint8_t *state, size_t state_len,
+                      const uint8_t *memory, size_t memory_len);
 
 /*
  * THE QUEUE ENGINE, of libservice.a: the router as the table of its scheduling model has it, with three queues for
@@ -298,7 +336,7 @@ size_t router_display(const uint8_t *outgoing, size_t outgoing_len, uint8_t port
  * Reads state and memory, and only reads them. The old content of the queues is not looked at. If accepted it writes
  * all of the queues: sizes and entries as above, and zero from entry n on.
  *
- * Returns ROUTER_ACCEPTED, ROUTER_BAD_LENGTH or ROUTER_BAD_STATE.
+ * Returns ROUTER_ACCEPTED, ROUTER_BAD_LENGTH, ROUTER_BAD_SETTINGS, ROUTER_BAD_STACK or ROUTER_BAD_PACKETS.
  */
 uint8_t router_queues_fill(const uint8_t *state, size_t state_len,
                            const uint8_t *memory, size_t memory_len,

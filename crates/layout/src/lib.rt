@@ -77,7 +77,9 @@ impl Router {
 pub enum Refusal {
     Accepted,
     Lengths,
-    Unsound,
+    Settings,
+    Stack,
+    Packets,
     Masks,
     Register,
     Value,
@@ -91,7 +93,9 @@ impl Refusal {
         match self {
             Refusal::Accepted => 0,
             Refusal::Lengths => 1,
-            Refusal::Unsound => 2,
+            Refusal::Settings => 13,
+            Refusal::Stack => 14,
+            Refusal::Packets => 15,
             Refusal::Masks => 3,
             Refusal::Register => 4,
             Refusal::Value => 5,

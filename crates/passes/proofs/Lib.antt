@@ -1,4 +1,5 @@
 pub mod Room
+pub mod Answers
 pub mod FirstFailure
 pub mod StackMarks
 pub mod SlotTests

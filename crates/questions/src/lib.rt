@@ -1,11 +1,12 @@
 // The questions of a control write and of a tick, in their order.
 ghost use mathlib.Core.Path.{_≡_};
 ghost use mathlib.Core.Bool.{_&&_};
-ghost use mathlib.Core.List.{[], _∷_};
+ghost use mathlib.Core.List.{_∷_};
 ghost use Rattle.rules.specs.Areas.{areasFull, asked, controlQuestions, tickQuestions};
 ghost use Rattle.rules.specs.Board.{board8};
-ghost use Rattle.rules.specs.Questions.{full, sound, controlRefusal, tickRefusal};
+ghost use Rattle.rules.specs.Questions.{full, soundQuestions, controlRefusal, tickRefusal};
 ghost use Rattle.passes.specs.Room.{Lent};
+ghost use Rattle.passes.specs.Stores.{store};
 ghost use Rattle.layout.specs.Numbers.{numberOf};
 use layout::Refusal;
 use layout::Router;
@@ -19,14 +20,14 @@ fn both(a: bool, b: bool) -> bool
 
 // 1: do state and memory have their lengths?
 fn store_full(state: &[u8], memory: &[u8]) -> bool
-    ensures { λ r. ⌜ r ≡ full board8 (record { state = now (state .entry); memory = now (memory .entry) }) ⌝ }
+    ensures { λ r. ⌜ r ≡ full board8 (store (now (state .entry)) (now (memory .entry))) ⌝ }
 {
     both(state.len() == Router::STATE, memory.len() == Router::MEMORY)
 }
 
 // 1: do all areas of a tick have their lengths?
 fn areas_full(state: &[u8], memory: &[u8], arrivals: &[u8], outgoing: &[u8], answers: &[u8]) -> bool
-    ensures { λ r. ⌜ r ≡ (full board8 (record { state = now (state .entry); memory = now (memory .entry) }) && areasFull (now (arrivals .entry)) (now (outgoing .entry)) (now (answers .entry))) ⌝ }
+    ensures { λ r. ⌜ r ≡ (full board8 (store (now (state .entry)) (now (memory .entry))) && areasFull (now (arrivals .entry)) (now (outgoing .entry)) (now (answers .entry))) ⌝ }
 {
     let packets = both(
         arrivals.len() == Router::ARRIVALS,
@@ -60,22 +61,19 @@ fn tick_questions(arriving: u8, waiting: u8) -> Refusal
     Refusal::Accepted
 }
 
-// 1 and 2: do state and memory have their lengths, and are they sound?
+// 1 and 13 to 15: do state and memory have their lengths, and are they sound?
 pub fn of_store(state: &[u8], memory: &[u8]) -> Refusal
-    ensures { λ r. ⌜ numberOf r ≡ asked ((full board8 (record { state = now (state .entry); memory = now (memory .entry) }), 1) ∷ (sound board8 (record { state = now (state .entry); memory = now (memory .entry) }), 2) ∷ []) ⌝ }
+    ensures { λ r. ⌜ numberOf r ≡ asked ((full board8 (store (now (state .entry)) (now (memory .entry))), 1) ∷ soundQuestions board8 15 (store (now (state .entry)) (now (memory .entry)))) ⌝ }
 {
     if !store_full(state, memory) {
         return Refusal::Lengths;
     }
-    if !sound::is_sound(state, memory) {
-        return Refusal::Unsound;
-    }
-    Refusal::Accepted
+    sound::fault(state, memory)
 }
 
 // The questions of a control write.
 pub fn of_control(state: &[u8], memory: &[u8], register: u8, value: u8) -> Refusal
-    ensures { λ r. ⌜ numberOf r ≡ controlRefusal board8 (record { state = now (state .entry); memory = now (memory .entry) }) register value ⌝ }
+    ensures { λ r. ⌜ numberOf r ≡ controlRefusal board8 (store (now (state .entry)) (now (memory .entry))) register value ⌝ }
 {
     let refusal = of_store(state, memory);
     if refusal.number() != 0 {
@@ -94,14 +92,15 @@ pub fn of_tick(
     arriving: u8,
     waiting: u8,
 ) -> Refusal
-    ensures number { λ r. ⌜ numberOf r ≡ tickRefusal board8 (record { state = now (state .entry); memory = now (memory .entry) }) arriving waiting (now (arrivals .entry)) (now (outgoing .entry)) (now (answers .entry)) ⌝ }
+    ensures number { λ r. ⌜ numberOf r ≡ tickRefusal board8 (store (now (state .entry)) (now (memory .entry))) arriving waiting (now (arrivals .entry)) (now (outgoing .entry)) (now (answers .entry)) ⌝ }
     ensures lengths { λ r. ⌜ (numberOf r ≡ 0 → Lent board8 (now (state .entry)) (now (memory .entry)) (now (arrivals .entry)) (now (outgoing .entry)) (now (answers .entry))) ⌝ }
 {
     if !areas_full(state, memory, arrivals, outgoing, answers) {
         return Refusal::Lengths;
     }
-    if !sound::is_sound(state, memory) {
-        return Refusal::Unsound;
+    let refusal = sound::fault(state, memory);
+    if refusal.number() != 0 {
+        return refusal;
     }
     tick_questions(arriving, waiting)
 }

@@ -33,6 +33,7 @@ use Rattle.rules.proofs.Relation.{SlotShows, Rel}
 use Rattle.passes.specs.Sends.{Winner, sentBy}
 use Rattle.passes.proofs.Packets.{length-won}
 use Rattle.passes.proofs.Sends.{granted-wins, granted-served, granted-ports}
+use Rattle.rules.proofs.Faults.{sound-asked}
 use Rattle.sound_kept.proofs.SoundKept.{shows, good, fed-bytes}
 use Rattle.queues.specs.Table1.{Holds}
 use Rattle.queues.specs.Area.{queuesLength, queue}
@@ -293,7 +294,7 @@ module _ (B : Board) (L : Laws B) where
   agrees : Agrees B
   unfolding Agrees Engine.fill asked
   agrees r bs bm f e q z =
-      rw (eq-eqb (length q) queuesLength z, f, e) (let H = filled-hold in (refl, refl, H, λ ks hb. after-calls ks (shows B L r bs bm f e) (good B L r bs bm f e) H hb))
+      rw (eq-eqb (length q) queuesLength z, f, sound-asked B 15 r [] e) (let H = filled-hold in (refl, refl, H, λ ks hb. after-calls ks (shows B L r bs bm f e) (good B L r bs bm f e) H hb))
     where
       filled-hold : AllHold B (record { store = r; queues = Engine.filled B (r .state) 256 })
       filled-hold = record { sized = length-filled B (r .state) 256; holds = filled-holds B (r .state) }

@@ -9,7 +9,7 @@ use Rattle.rules.specs.Order.{all, count}
 use Rattle.rules.specs.Areas.{Store, Outcome, numberReply, packet, has, perPort, Grant, nobody, bestEffort, onTime, early, grantCode, answersArea, asked}
 use Rattle.rules.specs.Board.{Board, Horizon, Idle, Mask, free}
 use Rattle.rules.specs.Tick.{arrival, arrived, isEarly, slotKey, grantBytes, isDue, withdrawals, withdrawn, returned, advanced}
-use Rattle.rules.specs.Questions.{full, sound, controlRefusal, tickRefusal, written}
+use Rattle.rules.specs.Questions.{full, soundQuestions, controlRefusal, tickRefusal, written}
 use Rattle.passes.specs.Sends.{sentBy}
 use Rattle.queues.specs.Table1.{before, waits}
 use Rattle.queues.specs.Area.{queuesLength, queue, putQueue, size, entry, resized, inserted, rest}
@@ -154,7 +154,7 @@ module _ (B : Board) where
   -- Fills the queues from a sound state.
   unfoldable pub fill : Bench → Outcome Bench
   fill b =
-      let n = asked ((eqb (length (b .queues)) queuesLength, 1) ∷ (full B (b .store), 1) ∷ (sound B (b .store), 2) ∷ []) in
+      let n = asked ((eqb (length (b .queues)) queuesLength, 1) ∷ (full B (b .store), 1) ∷ soundQuestions B 15 (b .store)) in
       cond (eqb n 0) (record { reply = numberReply 0; after = record { store = b .store; queues = filled B (b .store .state) 256 } }) (record { reply = numberReply n; after = b })
 
   -- A control write changes no stored packet, and no queue.

@@ -1,15 +1,16 @@
 -- Both routers agree over any list of calls, for every lawful board: call by call, the relation of store and router is kept and the replies are equal. Assumes nothing.
-use Prim.Native.Nat.{ℕ, zero, suc, _-_, _^_, _<_}
-use mathlib.Core.Path.{_≡_, refl, sym, ap, ap₂, _∙_}
-use mathlib.Core.Bool.{Bool, true, false, cond}
-use mathlib.Core.List.{List, [], _∷_}
+use Prim.Native.Nat.{ℕ, zero, suc, _-_, _^_, _<_, _≤_}
+use mathlib.Core.Path.{_≡_, refl, sym, ap, ap₂, subst, _∙_}
+use mathlib.Core.Bool.{Bool, true, false, cond, _&&_}
+use mathlib.Core.List.{List, [], _∷_, List·Memᴰ, List·Memᴰ·head, List·Memᴰ·tail}
 use mathlib.Core.Option.{Option, none, some}
+use native.Mathlib.Decide.{ℕ-discrete}
 use native.Mathlib.Omega.{arith}
 use lib.ListN.{take, length-replicate}
 use lib.Dec.{leb, eqb}
-use borrow.Author.Tests.{eqb-true, leb-true}
+use borrow.Author.Tests.{eq-eqb, ne-eqb, eqb-true, leb-true}
 use Rattle.rules.specs.Account.{NotedTick, Kept, stored}
-use Rattle.rules.specs.Areas.{Store, Reply, Outcome, numberReply, bits, fits, elem, distinct, asked}
+use Rattle.rules.specs.Areas.{Store, Reply, Outcome, numberReply, areasFull, bits, fits, elem, distinct, asked, controlQuestions, tickQuestions}
 use Rattle.rules.specs.Board.{Board, Horizon, Latch, Idle, Mask, Outgoing, Delay, Routes, clock, free}
 use Rattle.rules.specs.Calls.{Call, control, tick, afterAll, replies, refusal, refuse, accept, wholeStep, ByteCall, TrueTimes, Proper}
 use Rattle.rules.specs.Questions.{written, sound, controlRefusal, tickRefusal, fresh, stack}
@@ -27,6 +28,7 @@ use Rattle.rules.proofs.RunPrompt.{accounts}
 use Rattle.rules.proofs.TimeLaws.{cut-pos, half-pos}
 use Rattle.rules.proofs.StateLaws.{topFirst-same}
 use Rattle.rules.proofs.Soundness.{at-elem}
+use Rattle.rules.proofs.Faults.{sound-asked}
 use Rattle.rules.proofs.Relation.{shown, on-settings, SlotShows, Rel, rel-free, with-state}
 use Rattle.rules.proofs.Refine.{rel-sound, rel-full, tick-rel, reply-same, sends-same}
 use Rattle.rules.proofs.RefineControl.{written-rel}
@@ -80,14 +82,14 @@ module _ (B : Board) (L : Laws B) where
     pub runs : {h : List NotedTick} {z : Router} → Run c (q .after) h z → Run c w (noted c w k (o .reply .outgoing) h) z
 
   module _ {r : Store} {w : Router} (R : Rel B L r w) (G : Good c w) where
-    -- The first two questions are passed, so the others alone decide.
+    -- Lengths and soundness are passed, so the other questions decide.
     pub control-number : (register v : ℕ) → controlRefusal B r register v ≡ refusal c w (control register v)
     unfolding controlRefusal refusal asked
-    control-number register v = rw (rel-full B L R G, rel-sound B L R G)
+    control-number register v = rw (rel-full B L R G, sound-asked B 15 r (controlQuestions c register v) (rel-sound B L R G))
 
     pub tick-number : (k : TickCall) (out ans : List ℕ) → tickRefusal B r (k .arriving) (k .bestEffort) (k .arrivals) out ans ≡ refusal c w (tick k out ans)
     unfolding tickRefusal refusal asked
-    tick-number k out ans = rw (rel-full B L R G, rel-sound B L R G)
+    tick-number k out ans = rw (rel-full B L R G, sound-asked B 15 r (tickQuestions (k .arriving) (k .bestEffort)) (rel-sound B L R G))
 
     -- Both questions are passed.
     pub control-passed : (register v : ℕ) → refusal c w (control register v) ≡ 0 → (leb register 5 ≡ true) × (fits c register v ≡ true)
@@ -179,3 +181,42 @@ module _ (B : Board) (L : Laws B) where
   pub holds : Holds B
   unfolding Holds
   holds t h ks P n l = after-calls t h (take n ks) (proper-take n ks (start t) P)
+
+  -- ---- no call of a run gets 13, 14 or 15
+
+  -- The router that never turns over gives no number above 5: its questions have none, a refused call gets that of its question, and an accepted one 0.
+  refusal-small : (w : Router) (k : Call) → refusal c w k ≤ 5
+  unfolding refusal asked
+  refusal-small w (control register v) = go (leb register 5) (fits c register v)
+    where
+      go : (a b : Bool) → asked ((a, 4) ∷ (b, 5) ∷ []) ≤ 5
+      go true true = omega arith
+      go true false = omega arith
+      go false b = omega arith
+  refusal-small w (tick k out ans) = go (areasFull (k .arrivals) out ans) (leb (k .arriving) 31 && leb (k .bestEffort) 31)
+    where
+      go : (a b : Bool) → asked ((a, 1) ∷ (b, 3) ∷ []) ≤ 5
+      go true true = omega arith
+      go true false = omega arith
+      go false b = omega arith
+
+  reply-number : (w : Router) (k : Call) (n : ℕ) → (accept c w k .reply .number ≡ 0) × (refuse c w k n .reply .number ≡ n)
+  unfolding accept refuse
+  reply-number w (control register v) n = (refl, refl)
+  reply-number w (tick k out ans) n = (refl, refl)
+
+  whole-number : (w : Router) (k : Call) → wholeStep c w k .reply .number ≤ 5
+  unfolding wholeStep
+  whole-number w k = go (refusal c w k) (refusal-small w k) (ℕ-discrete (refusal c w k) 0)
+    where
+      go : (n : ℕ) → n ≤ 5 → Dec (n ≡ 0) → cond (eqb n 0) (accept c w k) (refuse c w k n) .reply .number ≤ 5
+      go n l (yes z) = rw (eq-eqb n 0 z, reply-number w k n .0) (omega arith)
+      go n l (no z) = rw (ne-eqb n 0 z, reply-number w k n .1) l
+
+  whole-numbers : (ks : List Call) (w : Router) (k : Reply) → List·Memᴰ k (replies (wholeStep c) w ks) → k .number ≤ 5
+  unfolding replies
+  whole-numbers (j ∷ ks) w k (List·Memᴰ·head e) = rw e (whole-number w j)
+  whole-numbers (j ∷ ks) w k (List·Memᴰ·tail m) = whole-numbers ks (wholeStep c w j .after) k m
+
+  pub never-faulty : (t : ℕ) → t < 2 ^ bits c → (ks : List Call) → Proper c (start t) ks → (k : Reply) → List·Memᴰ k (replies (byteStep B) (fresh B t) ks) → k .number ≤ 5
+  never-faulty t h ks P k m = whole-numbers ks (start t) k (subst (List·Memᴰ k) (after-calls t h ks P .replies) m)

@@ -1,11 +1,11 @@
 -- Tests that hold or fail, and what a test says, by cases of the test. Assumes nothing.
 use Prim.Native.Nat.{ℕ, suc}
 use mathlib.Core.Path.{_≡_, refl, sym, ap₂, subst}
-use mathlib.Core.Bool.{Bool, true, false, not, _&&_, _||_, Bool·beq, true≢false}
-use mathlib.Core.List.{List, [], _∷_}
+use mathlib.Core.Bool.{Bool, true, false, cond, not, _&&_, _||_, Bool·beq, true≢false}
+use mathlib.Core.List.{List, [], _∷_, _++_}
 use mathlib.Core.Option.{none, some}
 use native.Mathlib.Omega.{arith}
-use lib.Dec.{T}
+use lib.Dec.{T, eqb}
 use Rattle.rules.specs.Areas.{asked}
 
 -- ---- a test and its proposition
@@ -63,11 +63,25 @@ eq-beq a b e = subst (λ (x : Bool). Bool·beq a x ≡ true) e (go a)
     go true = refl
     go false = refl
 
+-- ---- questions
+
 -- Where questions give 0, the first is passed and the rest give 0.
 pub asked-passed : (passed : Bool) (n : ℕ) (qs : List (Bool × ℕ)) → asked ((passed, suc n) ∷ qs) ≡ 0 → (passed ≡ true) × (asked qs ≡ 0)
 unfolding asked
 asked-passed true n qs e = (refl, e)
 asked-passed false n qs e = absurd (omega arith)
+
+-- No question has the number 0.
+abbrev pub numbered : List (Bool × ℕ) → Bool
+numbered [] = true
+numbered ((passed, n) ∷ ps) = not (eqb n 0) && numbered ps
+
+-- The questions after others decide where these give 0, and nothing elsewhere.
+pub asked-append : (ps qs : List (Bool × ℕ)) → numbered ps ≡ true → asked (ps ++ qs) ≡ cond (eqb (asked ps) 0) (asked qs) (asked ps)
+unfolding asked
+asked-append [] qs h = refl
+asked-append ((true, n) ∷ ps) qs h = asked-append ps qs (and-right (not (eqb n 0)) (numbered ps) h)
+asked-append ((false, n) ∷ ps) qs h = rw (not-false (eqb n 0) (and-left (not (eqb n 0)) (numbered ps) h))
 
 -- ---- constructors are one-to-one, and differ
 

@@ -4,11 +4,11 @@ use mathlib.Core.Path.{_≡_, refl, sym, ap, ap₂, subst, _∙_}
 use mathlib.Core.Bool.{Bool, true, false, cond, not, _&&_, true≢false, and-true, and-false}
 use mathlib.Core.Logic.{_≢_}
 use mathlib.Core.Option.{Option, none, some}
-use native.Mathlib.Decide.{decLt}
+use native.Mathlib.Decide.{ℕ-discrete, decLt}
 use native.Mathlib.Omega.{arith}
-use lib.Dec.{eqb}
-use borrow.Author.Tests.{eq-eqb, ne-eqb}
-use Rattle.rules.specs.Order.{better, least, all, count, counted}
+use lib.Dec.{leb, eqb}
+use borrow.Author.Tests.{eq-eqb, ne-eqb, lt-leb, le-leb}
+use Rattle.rules.specs.Order.{better, least, all, firstFailing, count, counted}
 use Rattle.rules.proofs.Booleans.{some-inj, none-some}
 
 -- ---- two families of keys in one order have their least at one index
@@ -109,6 +109,50 @@ pub all-true : (f : ℕ → Bool) (k : ℕ) → ((i : ℕ) → i < k → f i ≡
 unfolding all
 all-true f zero h = refl
 all-true f (suc k) h = rw (all-true f k (λ i l. h i (omega arith))) (h k (omega arith))
+
+-- ---- the lowest index below k at which a test fails
+
+module _ (f : ℕ → Bool) where
+  -- The test holds at every index below i, and fails at i, or i is k.
+  pub record FirstFailing (k i : ℕ) : Type 0 where
+    pub within : i ≤ k
+    pub below : (j : ℕ) → j < i → f j ≡ true
+    pub fails : i < k → f i ≡ false
+
+  -- One index more: where none has failed it decides, else nothing changes.
+  pub first-failing : (k : ℕ) → FirstFailing k (firstFailing k f)
+  unfolding firstFailing
+  first-failing zero = record { within = omega arith; below = λ j l. absurd (omega arith); fails = λ l. absurd (omega arith) }
+  first-failing (suc k) = go (first-failing k) (ℕ-discrete (firstFailing k f) k) (f k) refl
+    where
+      go : {i : ℕ} → FirstFailing k i → Dec (i ≡ k) → (t : Bool) → f k ≡ t → FirstFailing (suc k) (cond (eqb i k && f k) (suc k) i)
+      go {i} F (yes q) true e = rw (eq-eqb i k q, e) (record { within = omega arith; below = λ j l. older j l (decLt j k); fails = λ l. absurd (omega arith) })
+        where
+          older : (j : ℕ) → j < suc k → Dec (j < k) → f j ≡ true
+          older j l (yes m) = F .below j (omega arith)
+          older j l (no m) = let z : j ≡ k = omega arith in ap f z ∙ e
+      go {i} F (yes q) false e = rw (eq-eqb i k q, e) (record { within = omega arith; below = F .below; fails = λ l. ap f q ∙ e })
+      go {i} F (no q) t e = rw (ne-eqb i k q) (record { within = let w = F .within in omega arith; below = F .below; fails = λ l. F .fails (let w = F .within in omega arith) })
+
+  -- All hold just if none fails.
+  pub all-first-failing : (k : ℕ) → all k f ≡ leb k (firstFailing k f)
+  all-first-failing k = go (first-failing k) (decLt (firstFailing k f) k) (all k f) refl
+    where
+      go : {i : ℕ} → FirstFailing k i → Dec (i < k) → (t : Bool) → all k f ≡ t → all k f ≡ leb k i
+      go {i} F (yes l) true e = absurd (true≢false (sym (all-at f k i e l) ∙ F .fails l))
+      go {i} F (yes l) false e = e ∙ sym (lt-leb k i l)
+      go {i} F (no l) t e = all-true f k (λ j h. F .below j (omega arith)) ∙ sym (le-leb k i (omega arith))
+
+  -- No other index is it: below the one, the other's test would hold and fail.
+  pub first-failing-one : (k i : ℕ) → FirstFailing k i → firstFailing k f ≡ i
+  first-failing-one k i F = go (first-failing k) (decLt (firstFailing k f) i) (decLt i (firstFailing k f))
+    where
+      go : {j : ℕ} → FirstFailing k j → Dec (j < i) → Dec (i < j) → j ≡ i
+      go {j} G (yes l) d = absurd (true≢false (sym (F .below j l) ∙ G .fails (let w = F .within in omega arith)))
+      go {j} G (no l) (yes m) = absurd (true≢false (sym (G .below i m) ∙ F .fails (let w = G .within in omega arith)))
+      go {j} G (no l) (no m) = omega arith
+
+-- ---- counts
 
 -- Equal tests count alike.
 pub count-same : (f g : ℕ → Bool) (k : ℕ) → ((j : ℕ) → j < k → f j ≡ g j) → count k f ≡ count k g

@@ -29,4 +29,5 @@ pub mod RunPrompt
 pub mod Agreement
 pub mod Feed
 pub mod Soundness
+pub mod Faults
 pub mod Theorem

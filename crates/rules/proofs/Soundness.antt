@@ -1,4 +1,4 @@
--- What a sound state is, in propositions: question 2 holds just if every rule of document 01's soundness does. Assumes nothing.
+-- What a sound state is, in propositions: its test holds just if every rule of document 01's soundness does. Assumes nothing.
 use Prim.Native.Nat.{ℕ, zero, suc, _-_, _<_, _≤_}
 use mathlib.Core.Path.{_≡_, refl, sym, ap, _∙_}
 use mathlib.Core.Bool.{Bool, true, false, not, _&&_, _||_, true≢false}
@@ -64,14 +64,18 @@ module _ (B : Board) where
     -- The header in memory has the deadline.
     pub header : stamp c (packet (r .memory) i) ≡ get (r .state) (Deadline, i)
 
+  -- Every slot with a mask other than 0 holds a sound packet.
+  abbrev pub AllStoredSound : Store → Type 0
+  AllStoredSound r = (i : ℕ) → i < 256 → get (r .state) (Mask, i) ≢ 0 → StoredSound r i
+
   -- A sound state, with the memory.
   pub record Sound (r : Store) : Type 0 where
     -- The settings are in range.
     pub settings : SettingsSound (r .state)
     -- The stack has the empty slots, each once.
     pub stack : StackSound (r .state)
-    -- Every slot with a mask other than 0 holds a sound packet.
-    pub stored : (i : ℕ) → i < 256 → get (r .state) (Mask, i) ≢ 0 → StoredSound r i
+    -- The stored packets are in order.
+    pub stored : AllStoredSound r
 
 -- ---- the list f (n - 1), .., f 0
 
@@ -122,7 +126,7 @@ module _ (f : ℕ → ℕ) where
 -- ---- both ways, part by part
 
 -- A test of two parts, as a pair.
-and-iff : (a b : Bool) → ((a && b) ≡ true) ↔ ((a ≡ true) × (b ≡ true))
+pub and-iff : (a b : Bool) → ((a && b) ≡ true) ↔ ((a ≡ true) × (b ≡ true))
 and-iff a b = (λ e. (and-left a b e, and-right a b e), λ p. and-both a b (p .0) (p .1))
 
 -- An order of whole numbers, by its test.
@@ -141,7 +145,7 @@ module _ (B : Board) where
   open Board B using (clockBytes as c, get)
 
   -- Each test of the settings is a rule.
-  settings-iff : (s : List ℕ) → (settingsSound B s ≡ true) ↔ SettingsSound B s
+  pub settings-iff : (s : List ℕ) → (settingsSound B s ≡ true) ↔ SettingsSound B s
   unfolding settingsSound
   settings-iff s =
       let latch = ltb (get s (Latch, 1)) (half c) && (leb (get s (Latch, 2)) 31 && leb (get s (Latch, 3)) 31) in
@@ -245,17 +249,22 @@ module _ (B : Board) where
             t₁ .1 (t₂ .1 (t₃ .1 (t₄ .1 (le-leb _ _ (x .ports), lt-ltb _ _ (x .in-range)), order-iff _ _ .1 (x .not-late)), order-iff _ _ .1 (x .not-far)), eq-eqb _ _ (x .header))),
       )
 
+  -- All slots together.
+  pub slots-iff : (r : Store) → (slotsSound B r ≡ true) ↔ AllStoredSound B r
+  unfolding slotsSound
+  slots-iff r = (λ e i h. slot-iff r i .0 (all-at (slotSound B r) 256 i e h), λ p. all-true (slotSound B r) 256 (λ i h. slot-iff r i .1 (p i h)))
+
   -- ---- the law
 
-  -- Question 2 is passed just where every rule holds.
+  -- The test is passed just where every rule holds.
   pub sound-iff : (r : Store) → (sound B r ≡ true) ↔ Sound B r
-  unfolding sound slotsSound
+  unfolding sound
   sound-iff r =
       let parts = and-iff (settingsSound B (r .state)) (stackSound B (r .state) && slotsSound B r) in
       let others = and-iff (stackSound B (r .state)) (slotsSound B r) in (
         λ e.
             let (settings, e₁) = parts .0 e in
             let (stack, slots) = others .0 e₁ in
-            record { settings = settings-iff (r .state) .0 settings; stack = stack-iff (r .state) .0 stack; stored = λ i h. slot-iff r i .0 (all-at (slotSound B r) 256 i slots h) },
-        λ p. parts .1 (settings-iff (r .state) .1 (p .settings), others .1 (stack-iff (r .state) .1 (p .stack), all-true (slotSound B r) 256 (λ i h. slot-iff r i .1 (p .stored i h)))),
+            record { settings = settings-iff (r .state) .0 settings; stack = stack-iff (r .state) .0 stack; stored = slots-iff r .0 slots },
+        λ p. parts .1 (settings-iff (r .state) .1 (p .settings), others .1 (stack-iff (r .state) .1 (p .stack), slots-iff r .1 (p .stored))),
       )

@@ -3,6 +3,7 @@ use Prim.Native.Nat.{ℕ, zero, suc, _+_}
 use mathlib.Core.Bool.{Bool, true, cond, not, _&&_, _||_}
 use mathlib.Core.List.{List, [], _∷_}
 use mathlib.Core.Option.{Option, none, some}
+use lib.Dec.{eqb}
 
 -- Whether the first of two goes before the second.
 abbrev pub Order : Type 0 → Type 0
@@ -45,6 +46,11 @@ module _ {A : Type 0} (less : Order A) where
 unfoldable pub all : ℕ → (ℕ → Bool) → Bool
 all zero f = true
 all (suc k) f = all k f && f k
+
+-- The lowest index below k at which f fails; k if it fails at none.
+unfoldable pub firstFailing : ℕ → (ℕ → Bool) → ℕ
+firstFailing zero f = 0
+firstFailing (suc k) f = let i = firstFailing k f in cond (eqb i k && f k) (suc k) i
 
 -- 1 for a test that holds.
 unfoldable pub counted : Bool → ℕ

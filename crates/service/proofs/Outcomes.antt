@@ -10,7 +10,7 @@ use lib.Dec.{eqb}
 use borrow.Author.Tests.{eq-eqb, ne-eqb}
 use Rattle.rules.specs.Areas.{numberReply, Outcome, asked}
 use Rattle.rules.specs.Board.{board8}
-use Rattle.rules.specs.Questions.{written, full, sound, controlRefusal, tickRefusal}
+use Rattle.rules.specs.Questions.{written, full, soundQuestions, controlRefusal, tickRefusal}
 use Rattle.queues.specs.Area.{queuesLength}
 use Rattle.queues.specs.Engine.{Bench, filled, fitting, ticked, fill, control, tick}
 
@@ -48,7 +48,7 @@ module _ (s q : List ℕ) (sized : length q ≡ queuesLength) (n m : ℕ) (e : n
 
 -- ---- filling
 
-module _ (b : Bench) (n : ℕ) (e : n ≡ number (b .queues) ((full board8 (b .store), 1) ∷ (sound board8 (b .store), 2) ∷ [])) where
+module _ (b : Bench) (n : ℕ) (e : n ≡ number (b .queues) ((full board8 (b .store), 1) ∷ soundQuestions board8 15 (b .store))) where
   -- A refusal alters nothing.
   pub fill-refused : n ≢ 0 → _≡_ {A = Outcome Bench} (record { reply = numberReply n; after = b }) (fill board8 b)
   unfolding fill number

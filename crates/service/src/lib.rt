@@ -1,10 +1,23 @@
-// The engine's entries: what the service bench calls.
+// What the service bench calls: the entry that names a fault, and those of the queue engine.
 ghost use mathlib.Core.Path.{_≡_};
 ghost use Rattle.rules.specs.Areas.{numberReply, Outcome};
 ghost use Rattle.rules.specs.Board.{board8};
+ghost use Rattle.rules.specs.Questions.{serviceFault};
 ghost use Rattle.passes.specs.Stores.{store};
 ghost use Rattle.queues.specs.Engine.{Bench, fill, control, tick};
 use layout::Refusal;
+
+// Names the fault of a state, which it only reads; of stored packets the lowest bad slot with it.
+#[no_mangle]
+pub extern "C" fn router_fault(state: &[u8], memory: &[u8]) -> u16
+    ensures { λ r. ⌜ r ≡ serviceFault board8 (store (now (state .entry)) (now (memory .entry))) ⌝ }
+{
+    let number = layout::wide(questions::of_store(state, memory).number());
+    if number != 15 {
+        return number;
+    }
+    number + 256 * sound::lowest_bad(state, memory)
+}
 
 // Fills the queues from a sound state.
 #[no_mangle]

@@ -1,21 +1,25 @@
-// Question 2: is the state sound? A function for each part, settings, stack and slots, and one pass over each list of the state.
+// Questions 13 to 15: is the state sound, and if not, which part is bad? One pass each over connections, horizons, stack and slots.
 ghost use mathlib.Core.Path.{_≡_};
-ghost use mathlib.Core.Bool.{true, false, _&&_};
+ghost use mathlib.Core.Bool.{false, not, _&&_, Bool·beq};
+ghost use mathlib.Core.List.{[], _∷_};
 ghost use Prim.Native.Nat.{ℕ, _≤_, _<_};
+ghost use lib.Dec.{eqb};
 ghost use lib.IntN.{pos, negℤ};
 ghost use lib.Signed.{leZ};
 ghost use lib.ListN.{length, getD, replicate};
 ghost use Rattle.rules.specs.Order.{all};
 ghost use Rattle.rules.specs.Clock.{offset};
-ghost use Rattle.rules.specs.Areas.{memoryLength, bits, elem};
-ghost use Rattle.rules.specs.Board.{board8};
-ghost use Rattle.rules.specs.Questions.{connectionSound, horizonSound, settingsSound, stack, listed, stackSound, slotSound, slotsSound, sound};
+ghost use Rattle.rules.specs.Areas.{memoryLength, bits, elem, asked};
+ghost use Rattle.rules.specs.Board.{Mask, board8};
+ghost use Rattle.rules.specs.Questions.{connectionSound, horizonSound, settingsSound, stack, listed, stackSound, slotSound, slotsSound, fault, lowestBad};
+ghost use Rattle.layout.specs.Numbers.{numberOf};
 ghost use Rattle.passes.specs.Room.{Room};
 ghost use Rattle.passes.specs.Stores.{store};
 ghost use Rattle.passes.specs.Stack.{Marked};
 use layout::ClockReading;
 use layout::ConnectionId;
 use layout::Field;
+use layout::Refusal;
 use layout::Router;
 use layout::SlotAddress;
 
@@ -107,23 +111,6 @@ fn all_listed(state: &[u8], seen: &[bool; Router::SLOTS]) -> bool
     ok
 }
 
-// Free count and idle-address stack.
-fn stack_sound(state: &[u8]) -> bool
-    requires { ⌜ length (now state) ≡ board8 .stateLength ⌝ }
-    ensures sound { λ r. ⌜ r ≡ stackSound board8 (now (state .entry)) ⌝ }
-    ensures room { λ r. ⌜ (r ≡ true → Room board8 (now (state .entry))) ⌝ }
-{
-    let n = layout::free_count(state);
-    if 256 < n {
-        return false;
-    }
-    let mut seen = [false; Router::SLOTS];
-    if !mark(state, n, &mut seen) {
-        return false;
-    }
-    all_listed(state, &seen)
-}
-
 // The offset of the time is -d to 126: counted from -d on, among the first d + 127 of the clock's 256 readings.
 fn offset_sound(time: ClockReading, t: ClockReading, d: u8) -> bool
     requires { ⌜ d < 128 ⌝ }
@@ -132,14 +119,14 @@ fn offset_sound(time: ClockReading, t: ClockReading, d: u8) -> bool
     clock::since(clock::later(time, d), t) < d + 127
 }
 
-// The slot is empty, or holds a packet whose mask, delay, time and header are in order.
-fn slot_sound(state: &[u8], memory: &[u8], s: SlotAddress) -> bool
+// The slot holds a packet whose mask, delay, time and header are in order.
+fn stored_sound(state: &[u8], memory: &[u8], s: SlotAddress) -> bool
     requires { ⌜ (length (now state) ≡ board8 .stateLength) × (length (now memory) ≡ memoryLength) ⌝ }
-    ensures { λ r. ⌜ r ≡ slotSound board8 (store (now (state .entry)) (now (memory .entry))) (s .0) ⌝ }
+    ensures { λ r. ⌜ r ≡ (not (eqb (board8 .get (now (state .entry)) (Mask, s .0)) 0) && slotSound board8 (store (now (state .entry)) (now (memory .entry))) (s .0)) ⌝ }
 {
     let mask = layout::read(state, Field::Mask(s));
     if mask == 0 {
-        return true;
+        return false;
     }
     if Router::ALL_PORTS < mask {
         return false;
@@ -157,31 +144,77 @@ fn slot_sound(state: &[u8], memory: &[u8], s: SlotAddress) -> bool
     memory[Router::PACKET * (s.0 as usize) + 1] == deadline.0
 }
 
-fn slots_sound(state: &[u8], memory: &[u8]) -> bool
+// The slot is empty if it is idle, that is on the stack, and else holds a packet in order.
+fn slot_passes(state: &[u8], memory: &[u8], s: SlotAddress, idle: bool) -> bool
     requires { ⌜ (length (now state) ≡ board8 .stateLength) × (length (now memory) ≡ memoryLength) ⌝ }
-    ensures { λ r. ⌜ r ≡ slotsSound board8 (store (now (state .entry)) (now (memory .entry))) ⌝ }
+    ensures { λ r. ⌜ r ≡ (Bool·beq idle (eqb (board8 .get (now (state .entry)) (Mask, s .0)) 0) && slotSound board8 (store (now (state .entry)) (now (memory .entry))) (s .0)) ⌝ }
+{
+    if idle {
+        return layout::read(state, Field::Mask(s)) == 0;
+    }
+    stored_sound(state, memory, s)
+}
+
+// One pass over the slots, of which those on the stack are marked. Where one doesn't pass, the stack's part decides first.
+fn slots_fault(state: &[u8], memory: &[u8], seen: &[bool; Router::SLOTS]) -> Refusal
+    requires { ⌜ (length (now state) ≡ board8 .stateLength) × (length (now memory) ≡ memoryLength) × ((a : ℕ) → a < 256 → getD (now seen) a false ≡ elem a (stack board8 (now state))) ⌝ }
+    ensures { λ r. ⌜ numberOf r ≡ asked ((all 256 (listed board8 (now (state .entry))), 14) ∷ (slotsSound board8 (store (now (state .entry)) (now (memory .entry))), 15) ∷ []) ⌝ }
 {
     let mut i = 0;
     while i < Router::SLOTS {
-        if !slot_sound(state, memory, SlotAddress(i as u8)) {
-            return false;
+        if !slot_passes(state, memory, SlotAddress(i as u8), seen[i]) {
+            if !all_listed(state, seen) {
+                return Refusal::Stack;
+            }
+            return Refusal::Packets;
         }
         i += 1;
     }
-    true
+    Refusal::Accepted
 }
 
-// Question 2, its parts in order.
-pub fn is_sound(state: &[u8], memory: &[u8]) -> bool
+// Free count, idle-address stack and stored packets. Where there is no fault there is room.
+fn stored_fault(state: &[u8], memory: &[u8]) -> Refusal
     requires { ⌜ (length (now state) ≡ board8 .stateLength) × (length (now memory) ≡ memoryLength) ⌝ }
-    ensures sound { λ r. ⌜ r ≡ sound board8 (store (now (state .entry)) (now (memory .entry))) ⌝ }
-    ensures room { λ r. ⌜ (r ≡ true → Room board8 (now (state .entry))) ⌝ }
+    ensures number { λ r. ⌜ numberOf r ≡ asked ((stackSound board8 (now (state .entry)), 14) ∷ (slotsSound board8 (store (now (state .entry)) (now (memory .entry))), 15) ∷ []) ⌝ }
+    ensures room { λ r. ⌜ (numberOf r ≡ 0 → Room board8 (now (state .entry))) ⌝ }
+{
+    let n = layout::free_count(state);
+    if 256 < n {
+        return Refusal::Stack;
+    }
+    let mut seen = [false; Router::SLOTS];
+    if !mark(state, n, &mut seen) {
+        return Refusal::Stack;
+    }
+    slots_fault(state, memory, &seen)
+}
+
+// The first fault, the parts in their order. A state without one has room.
+pub fn fault(state: &[u8], memory: &[u8]) -> Refusal
+    requires { ⌜ (length (now state) ≡ board8 .stateLength) × (length (now memory) ≡ memoryLength) ⌝ }
+    ensures number { λ r. ⌜ numberOf r ≡ fault board8 (store (now (state .entry)) (now (memory .entry))) ⌝ }
+    ensures room { λ r. ⌜ (numberOf r ≡ 0 → Room board8 (now (state .entry))) ⌝ }
 {
     if !settings_sound(state) {
-        return false;
+        return Refusal::Settings;
     }
-    if !stack_sound(state) {
-        return false;
+    stored_fault(state, memory)
+}
+
+// The lowest bad slot; 256 if there is none.
+pub fn lowest_bad(state: &[u8], memory: &[u8]) -> u16
+    requires { ⌜ (length (now state) ≡ board8 .stateLength) × (length (now memory) ≡ memoryLength) ⌝ }
+    ensures { λ r. ⌜ r ≡ lowestBad board8 (store (now (state .entry)) (now (memory .entry))) ⌝ }
+{
+    let mut i: u16 = 0;
+    while i < 256 {
+        let s = SlotAddress(i as u8);
+        let empty = layout::read(state, Field::Mask(s)) == 0;
+        if !slot_passes(state, memory, s, empty) {
+            return i;
+        }
+        i += 1;
     }
-    slots_sound(state, memory)
+    i
 }

@@ -1,7 +1,7 @@
 -- `questions::control_questions` meets its contract: each return has a yes for every question before it. Assumes nothing.
 use mathlib.Core.Path.{refl}
 use borrow.Author.Needs.{needs}
-use Rattle.questions.proofs.Answers.{no, yes, accepted}
+use Rattle.passes.proofs.Answers.{no, yes, accepted}
 use Rattle.questions.proofs.control_questions.Statement.{statement}
 use Rattle.questions.proofs.control_questions.Tie as tie
 

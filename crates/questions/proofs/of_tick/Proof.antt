@@ -1,11 +1,12 @@
--- `questions::of_tick` meets its contract: each return has a yes for every question before it, and the last leaves the number to `tick_questions`, with the
--- lengths and the room from those before it. Assumes nothing.
-use mathlib.Core.Path.{refl}
+-- `questions::of_tick` meets its contract: a wrong length stops the call, then a fault does; else the number is left to `tick_questions`, with the lengths
+-- and the room from the questions before it. Assumes nothing.
+use mathlib.Core.Path.{refl, sym, _∙_}
 use native.Mathlib.Omega.{arith}
 use borrow.Author.Needs.{needs}
-use Rattle.rules.specs.Questions.{tickRefusal}
+use Rattle.rules.specs.Questions.{fault, tickRefusal}
 use Rattle.rules.proofs.Booleans.{and-left}
-use Rattle.questions.proofs.Answers.{no, yes, passed, full-lengths, all-lent}
+use Rattle.passes.proofs.Answers.{no, yes, passed, refused-before, passed-before}
+use Rattle.questions.proofs.Passed.{full-lengths, all-lent}
 use Rattle.questions.proofs.of_tick.Statement.{statement}
 use Rattle.questions.proofs.of_tick.Tie as tie
 
@@ -13,25 +14,27 @@ returns : tie.Need-returns
 unfolding tickRefusal
 returns c = (no _ _ _ (c .before .areas-full .ensures) (c .if1 .taken), λ e. absurd (omega arith))
 
-is-sound-requires : tie.Need-is-sound-requires
-is-sound-requires c κs = full-lengths _ (and-left _ _ (passed (c .before .areas-full .ensures) (c .if1 .left)))
+fault-requires : tie.Need-fault-requires
+fault-requires c κs = full-lengths _ (and-left _ _ (passed (c .before .areas-full .ensures) (c .if1 .left)))
 
 returns-2 : tie.Need-returns-2
-unfolding tickRefusal
+unfolding tickRefusal fault
 returns-2 c =
-    let s = c .before in
-    let f = s .before .before in
-    (yes _ _ _ (f .areas-full .ensures) (s .before .if1 .left) (no _ _ _ (s .is-sound .ensures .0) (c .if2 .taken)), λ e. absurd (omega arith))
+    let s = c .before .before in
+    let l = s .before in (
+      yes _ _ _ (l .before .areas-full .ensures) (l .if1 .left) (refused-before _ _ refl (s .fault .ensures .0) (λ e. c .if2 .taken (c .before .number .ensures ∙ e))),
+      λ e. absurd (c .if2 .taken (c .before .number .ensures ∙ e)),
+    )
 
 returns-3 : tie.Need-returns-3
-unfolding tickRefusal
+unfolding tickRefusal fault
 returns-3 c =
-    let s = c .before .before in
-    let f = s .before .before in
-    let full = passed (f .areas-full .ensures) (s .before .if1 .left) in
-    let room = s .is-sound .ensures .1 (passed refl (c .before .if2 .left)) in (
-      yes _ _ _ (f .areas-full .ensures) (s .before .if1 .left) (yes _ _ _ (s .is-sound .ensures .0) (c .before .if2 .left) (c .tick-questions .ensures)),
-      λ e. all-lent _ _ _ _ _ full room,
+    let q = c .before .before in
+    let s = q .before in
+    let l = s .before in
+    let none = sym (q .number .ensures) ∙ c .before .if2 .left in (
+      yes _ _ _ (l .before .areas-full .ensures) (l .if1 .left) (passed-before _ _ refl (s .fault .ensures .0) none (c .tick-questions .ensures)),
+      λ e. all-lent _ _ _ _ _ (passed (l .before .areas-full .ensures) (l .if1 .left)) (s .fault .ensures .1 none),
     )
 
 pub of-tick-spec : {M : Type 1} → statement M
@@ -40,7 +43,8 @@ of-tick-spec =
     (tie.spec
     (λ c κs. search needs)
     returns
-    is-sound-requires
+    fault-requires
+    (λ c κs. search needs)
     returns-2
     (λ c κs. search needs)
     returns-3)

@@ -1,6 +1,6 @@
 -- `questions::tick_questions` meets its contract: a no, or a yes. Assumes nothing.
 use borrow.Author.Needs.{needs}
-use Rattle.questions.proofs.Answers.{no, yes, accepted}
+use Rattle.passes.proofs.Answers.{no, yes, accepted}
 use Rattle.questions.proofs.tick_questions.Statement.{statement}
 use Rattle.questions.proofs.tick_questions.Tie as tie
 

@@ -2,7 +2,7 @@
 -- Assumes nothing.
 use mathlib.Core.Path.{sym, _∙_}
 use native.Mathlib.Omega.{arith}
-use Rattle.questions.proofs.Answers.{known, control-sized}
+use Rattle.questions.proofs.Passed.{known, control-sized}
 use Rattle.service.proofs.Outcomes.{wrong-length, router-refuses, queues-decide, control-refused, control-accepted}
 use borrow.Author.Needs.{needs}
 use Rattle.service.proofs.router_queues_control.Statement.{statement}
