@@ -10,14 +10,14 @@ use lib.Dec.{eqb}
 use borrow.Author.Tests.{le-leb}
 use Rattle.rules.specs.Order.{firstFailing}
 use Rattle.rules.specs.Areas.{Store, areasFull, asked, controlQuestions, tickQuestions}
-use Rattle.rules.specs.Board.{Board}
+use Rattle.rules.specs.Board.{Board, Mask}
 use Rattle.rules.specs.Questions.{full, settingsSound, stackSound, slotSound, slotsSound, sound, soundQuestions, fault, controlRefusal, tickRefusal, lowestBad, serviceFault}
 use Rattle.rules.proofs.Booleans.{asked-append}
 use Rattle.rules.proofs.IndexLaws.{FirstFailing, first-failing, all-first-failing}
-use Rattle.rules.proofs.Soundness.{SettingsSound, StackSound, AllStoredSound, and-iff, settings-iff, stack-iff, slots-iff}
+use Rattle.rules.proofs.Soundness.{SettingsSound, StackSound, StoredSound, AllStoredSound, and-iff, settings-iff, stack-iff, empty-sound, slot-iff, slots-iff}
 
 module _ (B : Board) where
-  open Board B using (clockBytes as c)
+  open Board B using (clockBytes as c, get)
 
   -- ---- the first fault
 
@@ -82,16 +82,25 @@ module _ (B : Board) where
 
   -- ---- the service entry
 
-  -- Where a stored packet is not sound, the lowest bad slot is one, and no lower one is bad.
-  abbrev pub BadFirst : Store → ℕ → Type 0
-  BadFirst r i = (i < 256) × (slotSound B r i ≡ false) × ((j : ℕ) → j < i → slotSound B r j ≡ true)
+  -- Slot i holds a packet that breaks a rule, and no lower slot does.
+  pub record LowestBad (r : Store) (i : ℕ) : Type 0 where
+    pub slot : i < 256
+    pub stored : get (r .state) (Mask, i) ≢ 0
+    pub bad : StoredSound B r i → ⊥
+    pub lower : (j : ℕ) → j < i → get (r .state) (Mask, j) ≢ 0 → StoredSound B r j
 
-  pub lowest-bad : (r : Store) → slotsSound B r ≡ false → BadFirst r (lowestBad B r)
+  -- Where a test of a slot fails there is a first one, whose slot is not empty.
+  pub lowest-bad : (r : Store) → slotsSound B r ≡ false → LowestBad r (lowestBad B r)
   unfolding slotsSound lowestBad
   lowest-bad r e = go (first-failing (slotSound B r) 256) (decLt (firstFailing 256 (slotSound B r)) 256)
     where
-      go : let i = firstFailing 256 (slotSound B r) in FirstFailing (slotSound B r) 256 i → Dec (i < 256) → BadFirst r i
-      go F (yes l) = (l, F .fails l, F .below)
+      failing : {b : Bool} → b ≡ false → b ≡ true → ⊥
+      failing q t = true≢false (sym t ∙ q)
+
+      go : let i = firstFailing 256 (slotSound B r) in FirstFailing (slotSound B r) 256 i → Dec (i < 256) → LowestBad r i
+      go F (yes l) =
+          let q = F .fails l in
+          record { slot = l; stored = λ z. failing q (empty-sound B r _ z); bad = λ x. failing q (slot-iff B r _ .1 (λ n. x)); lower = λ j m. slot-iff B r j .0 (F .below j m) }
       go F (no l) = absurd (true≢false (sym (all-first-failing (slotSound B r) 256 ∙ le-leb 256 (firstFailing 256 (slotSound B r)) (omega arith)) ∙ e))
 
   -- What lengths and soundness give a call.
@@ -135,9 +144,9 @@ module _ (B : Board) where
       go (inr a) = a
 
   -- The slot that it names is bad, and no lower one is.
-  pub service-names : (r : Store) (i : ℕ) → serviceFault B r ≡ 15 + 256 * i → BadFirst r i
+  pub service-names : (r : Store) (i : ℕ) → serviceFault B r ≡ 15 + 256 * i → LowestBad r i
   service-names r i n = go (service-cases r)
     where
-      go : Same r ⊎ Adds r → BadFirst r i
+      go : Same r ⊎ Adds r → LowestBad r i
       go (inl s) = absurd (let (l, e) = s in omega arith)
       go (inr a) = let e = a .3 in let z : lowestBad B r ≡ i = omega arith in rw (← z) (lowest-bad r (a .2))

@@ -225,8 +225,13 @@ module _ (B : Board) where
           go (no q) true e = let (k, l, m) = at-elem entry i n e in absurd (q (p .idle-empty i k h l m))
           go (no q) false e = e ∙ sym (ne-eqb (get s (Mask, i)) 0 q)
 
+  -- An empty slot is never bad.
+  pub empty-sound : (r : Store) (i : ℕ) → get (r .state) (Mask, i) ≡ 0 → slotSound B r i ≡ true
+  unfolding slotSound
+  empty-sound r i e = rw (eq-eqb (get (r .state) (Mask, i)) 0 e)
+
   -- Each test of a slot is a rule for the packet in it.
-  slot-iff : (r : Store) (i : ℕ) → (slotSound B r i ≡ true) ↔ (get (r .state) (Mask, i) ≢ 0 → StoredSound B r i)
+  pub slot-iff : (r : Store) (i : ℕ) → (slotSound B r i ≡ true) ↔ (get (r .state) (Mask, i) ≢ 0 → StoredSound B r i)
   unfolding slotSound
   slot-iff r i =
       let s = r .state in

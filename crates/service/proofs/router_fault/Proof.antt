@@ -28,7 +28,7 @@ lowest-bad-requires c κs = let w = c .before in full-lengths (lent w) (service-
 -- With 15 the bad slot is below 256.
 below : (c : tie.After-lowest-bad) → c .lowest-bad .result < 256
 below c = let w = c .before .before in
-    let l = lowest-bad board8 (lent w) (service-adds board8 (lent w) (sym (given w) ∙ c .before .if1 .left) .2) .0 in
+    let l = lowest-bad board8 (lent w) (service-adds board8 (lent w) (sym (given w) ∙ c .before .if1 .left) .2) .slot in
     omega (arith, c .lowest-bad .ensures)
 
 returns-2 : tie.Need-returns-2
