@@ -6,13 +6,21 @@ use native.Mathlib.Nat.{add-zero, add-suc, suc-add}
 use native.Mathlib.Numerals.{add-one}
 use native.Mathlib.Omega.{arith}
 use lib.ListN.{length, length-append, set, take, drop}
-use lib.Seq.{sets, sets-eq, take-at}
+use lib.Seq.{sets, sets-eq, set-comm, take-at}
 use Rattle.rules.specs.Areas.{portsBelow}
 use Rattle.text.specs.Put.{Put}
 
 pub sets-append : (l : List ℕ) (at : ℕ) (a b : List ℕ) → sets (sets l at a) (at + length a) b ≡ sets l at (a ++ b)
 sets-append l at [] b = rw add-zero
 sets-append l at (x ∷ a) b = rw (add-suc at (length a), ← suc-add at (length a)) (sets-append (set l at x) (suc at) a b)
+
+-- A text's last character may be stored first.
+sets-set : (l : List ℕ) (at : ℕ) (vs : List ℕ) (m d : ℕ) → at + length vs ≤ m → sets (set l m d) at vs ≡ set (sets l at vs) m d
+sets-set l at [] m d h = refl
+sets-set l at (x ∷ vs) m d h = rw (set-comm l m at d x (λ e. omega arith)) (sets-set (set l at x) (suc at) vs m d (omega arith))
+
+pub last-first : (l : List ℕ) (at : ℕ) (a : List ℕ) (d : ℕ) → sets (set l (at + length a) d) at a ≡ sets l at (a ++ (d ∷ []))
+last-first l at a d = sets-set l at a (at + length a) d (omega arith) ∙ sets-append l at a (d ∷ [])
 
 pub put-nothing : (l : List ℕ) (at : ℕ) → Put [] at l l at
 put-nothing l at = record { stored = refl; ends = sym (add-zero at) }

@@ -1,5 +1,5 @@
 -- The lines that `tape` prints, as bytes (document 01, "Tape program"). Assumes nothing.
-use Prim.Native.Nat.{ℕ, zero, suc, _+_, _*_, _/_, _%_}
+use Prim.Native.Nat.{ℕ, zero, suc, max, _+_, _*_, _/_, _%_}
 use mathlib.Core.Bool.{cond}
 use mathlib.Core.List.{List, [], _∷_, _++_}
 use lib.Dec.{ltb, eqb}
@@ -10,14 +10,22 @@ unfoldable pub decimal : ℕ → ℕ → List ℕ
 decimal zero v = []
 decimal (suc k) v = decimal k (v / 10) ++ ((48 + v % 10) ∷ [])
 
--- How many digits v has, but at least six, and at most k more.
-unfoldable pub digitsOf : ℕ → ℕ → ℕ
-digitsOf zero v = 6
-digitsOf (suc k) v = cond (ltb v 1000000) 6 (suc (digitsOf k (v / 10)))
+-- How many digits v has without zeros in front, up to k more than one.
+unfoldable pub digitsUpTo : ℕ → ℕ → ℕ
+digitsUpTo zero v = 1
+digitsUpTo (suc k) v = cond (ltb v 10) 1 (suc (digitsUpTo k (v / 10)))
 
--- A record's number, in at least six digits: twenty hold every number of 64 bits.
+-- Twenty digits hold every number of 64 bits.
+abbrev pub digitsOf : ℕ → ℕ
+digitsOf v = digitsUpTo 19 v
+
+-- A number without zeros in front.
+unfoldable pub unpadded : ℕ → List ℕ
+unpadded v = decimal (digitsOf v) v
+
+-- A record's number, in at least six digits.
 abbrev pub recordNumber : ℕ → List ℕ
-recordNumber v = decimal (digitsOf 14 v) v
+recordNumber v = decimal (max 6 (digitsOf v)) v
 
 -- A capital hex digit.
 abbrev pub hex : ℕ → ℕ

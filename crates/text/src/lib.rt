@@ -2,9 +2,9 @@
 ghost use mathlib.Core.Path.{_≡_};
 ghost use mathlib.Core.List.{[], _∷_};
 ghost use mathlib.Core.Bool.{cond};
-ghost use Prim.Native.Nat.{_+_, _≤_, _<_};
+ghost use Prim.Native.Nat.{max, _+_, _≤_, _<_};
 ghost use lib.Dec.{eqb};
-ghost use lib.ListN.{length};
+ghost use lib.ListN.{length, replicate};
 ghost use Rattle.rules.specs.Areas.{perPort};
 ghost use Rattle.text.specs.Lines.{decimal, digitsOf, hex, field, refusedLine, withdrawn, portField, withdrawnSum, tickText, tickLine};
 ghost use Rattle.text.specs.Put.{Put};
@@ -28,6 +28,20 @@ fn put_text(lines: &mut [u8], at: usize, text: &[u8]) -> usize
     at + text.len()
 }
 
+// A character so many times.
+pub fn put_repeated(lines: &mut [u8], at: usize, count: usize, b: u8) -> usize
+    requires { ⌜ at + count ≤ length (now lines) ⌝ }
+    ensures { λ r. ⌜ Put (replicate count b) at (now (lines .entry)) (now (lines .exit)) r ⌝ }
+    ensures { λ r. ⌜ r ≡ at + count ⌝ }
+{
+    let mut left = count;
+    while 0 < left {
+        left -= 1;
+        lines[at + left] = b;
+    }
+    at + count
+}
+
 // The last digits of a number.
 pub fn put_decimal(lines: &mut [u8], at: usize, width: usize, value: u64) -> usize
     requires { ⌜ at + width ≤ length (now lines) ⌝ }
@@ -44,21 +58,33 @@ pub fn put_decimal(lines: &mut [u8], at: usize, width: usize, value: u64) -> usi
     at + width
 }
 
-// The digits of a record's number.
-fn number_digits(number: u64) -> usize
-    ensures { λ r. ⌜ r ≡ digitsOf 14 number ⌝ }
+// How many digits a number has without zeros in front.
+pub fn digits(number: u64) -> usize
+    ensures { λ r. ⌜ r ≡ digitsOf number ⌝ }
     ensures { λ r. ⌜ r ≤ 20 ⌝ }
 {
-    let mut more: usize = 14;
+    let mut more: usize = 19;
     let mut rest = number;
     while 0 < more {
-        if rest < 1000000 {
+        if rest < 10 {
             return 20 - more;
         }
         rest /= 10;
         more -= 1;
     }
     20
+}
+
+// The same, and at least six.
+fn record_digits(number: u64) -> usize
+    ensures { λ r. ⌜ r ≡ max 6 (digitsOf number) ⌝ }
+    ensures { λ r. ⌜ r ≤ 20 ⌝ }
+{
+    let count = digits(number);
+    if count < 6 {
+        return 6;
+    }
+    count
 }
 
 // A space and the last digits of a number.
@@ -77,7 +103,7 @@ pub fn put_refused(lines: &mut [u8], at: usize, number: u64, refusal: u8) -> usi
     ensures { λ r. ⌜ Put (refusedLine number refusal) at (now (lines .entry)) (now (lines .exit)) r ⌝ }
     ensures { λ r. ⌜ r ≤ at + 26 ⌝ }
 {
-    let width = number_digits(number);
+    let width = record_digits(number);
     let place = put_char(lines, at, b'R');
     let after = put_spaced(lines, place, width, number);
     let end = put_spaced(lines, after, 2, refusal as u64);
@@ -170,6 +196,7 @@ pub fn withdrawn_on(answers: &[u8], port: usize) -> u16
 // How many packets were withdrawn in all.
 pub fn withdrawn_sum(answers: &[u8]) -> u64
     ensures { λ r. ⌜ r ≡ withdrawnSum (now (answers .entry)) ⌝ }
+    ensures { λ r. ⌜ r ≤ 327675 ⌝ }
 {
     let mut sum: u64 = 0;
     let mut port: usize = 0;

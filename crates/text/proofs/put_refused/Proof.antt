@@ -12,7 +12,7 @@ returns c =
     let second = third .before .before .before .before in
     let first = second .before .before .before .before in
     let text = put-then (put-then (put-then (first .put-char .ensures) (second .put-spaced .ensures .0)) (third .put-spaced2 .ensures .0)) (c .before .before .put-char2 .ensures) in
-    (rw (← first .before .before .number-digits .ensures .0) text, search needs)
+    (rw (← first .before .before .record-digits .ensures .0) text, search needs)
 
 pub put-refused-spec : {M : Type 1} → statement M
 put-refused-spec =

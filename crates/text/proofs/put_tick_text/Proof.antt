@@ -12,7 +12,7 @@ returns c =
     let second = third .before .before .before .before in
     let first = second .before .before .before .before in
     let text = put-then (put-then (put-then (first .put-char .ensures) (second .put-spaced .ensures .0)) (third .put-ports .ensures .0)) (c .before .before .put-spaced2 .ensures .0) in
-    (rw (← first .before .before .withdrawn-sum .ensures) text, search needs)
+    (rw (← first .before .before .withdrawn-sum .ensures .0) text, search needs)
 
 pub put-tick-text-spec : {M : Type 1} → statement M
 put-tick-text-spec =

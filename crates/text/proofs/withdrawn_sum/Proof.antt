@@ -29,7 +29,7 @@ returns : tie.Need-returns Inv-loop μ-loop
 returns c =
     let l = c .before .loop in
     let e : l .port ≡ 5 = omega arith in
-    rw e at (l .inv .2)
+    (rw e at (l .inv .2), search needs)
 
 pub withdrawn-sum-spec : {M : Type 1} → statement M
 withdrawn-sum-spec =
