@@ -1,3 +1,4 @@
 pub mod Pages
 pub mod Printing
+pub mod Claims
 pub mod Values

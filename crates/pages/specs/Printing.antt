@@ -38,3 +38,11 @@ withEvent p (ticked records t out ans) = withTick p (record { clock = t; outgoin
 -- The tape's end: the rest of a page that is begun.
 unfoldable pub ending : Page → List ℕ
 ending p = cond (eqb (p .ticks) 0) [] (ended (replicate (pageTicks - p .ticks) emptyRow ++ (totalLine (p .total) ∷ [])))
+
+-- Events one after the other.
+unfoldable pub withEvents : Page → List Event → Paged
+withEvents p [] = record { page = p; text = [] }
+withEvents p (e ∷ es) =
+    let o = withEvent p e in
+    let rest = withEvents (o .page) es in
+    record { page = rest .page; text = o .text ++ rest .text }
