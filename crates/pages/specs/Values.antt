@@ -12,6 +12,6 @@ abbrev pub Proper : Page → Type 0
 Proper p = (p .number < 10000) × (p .ticks < 62) × (p .total ≤ 327675 * p .ticks)
 
 -- The text is in the area, and the page at hand is that after it.
-pub record Printed (o : Paged) (at : ℕ) (before after : List ℕ) (r : Code.Paged) : Type 0 where
+pub record PutPaged (o : Paged) (at : ℕ) (before after : List ℕ) (r : Code.Paged) : Type 0 where
   pub page : r .page ≡ o .page
   pub text : Put (o .text) at before after (r .at)

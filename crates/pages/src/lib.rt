@@ -7,7 +7,7 @@ ghost use Rattle.events.specs.Values.{eventOf};
 ghost use Rattle.text.specs.Put.{Put};
 ghost use Rattle.pages.specs.Pages.{spaces, numberLine, tickRow, emptyRow, totalLine, ended};
 ghost use Rattle.pages.specs.Printing as Printing;
-ghost use Rattle.pages.specs.Values.{Proper, Printed};
+ghost use Rattle.pages.specs.Values.{Proper, PutPaged};
 use events::Event;
 use layout::Router;
 
@@ -112,7 +112,7 @@ fn put_opening(lines: &mut [u8], at: usize, page: Page) -> usize
 // The last line of a page that is full; then the next page is at hand.
 fn put_closing(lines: &mut [u8], at: usize, page: Page) -> Paged
     requires { ⌜ (page .ticks ≡ 62 → at + 73 ≤ length (now lines)) × (page .number < 10000) ⌝ }
-    ensures { λ r. ⌜ Printed (Printing.closed page) at (now (lines .entry)) (now (lines .exit)) r ⌝ }
+    ensures { λ r. ⌜ PutPaged (Printing.closed page) at (now (lines .entry)) (now (lines .exit)) r ⌝ }
     ensures { λ r. ⌜ (r .at ≤ at + 73) × (page .ticks < 62 → r .at ≡ at) ⌝ }
 {
     if page.ticks == TICKS {
@@ -141,7 +141,7 @@ fn put_tick(
     answers: &[u8],
 ) -> Paged
     requires { ⌜ Proper page × (at + 146 ≤ length (now lines)) ⌝ }
-    ensures { λ r. ⌜ Printed (Printing.withTick page (record { clock = clock; outgoing = now (outgoing .entry); answers = now (answers .entry) })) at (now (lines .entry)) (now (lines .exit)) r ⌝ }
+    ensures { λ r. ⌜ PutPaged (Printing.withTick page (record { clock = clock; outgoing = now (outgoing .entry); answers = now (answers .entry) })) at (now (lines .entry)) (now (lines .exit)) r ⌝ }
     ensures { λ r. ⌜ Proper (r .page) × (r .at ≤ at + 146) ⌝ }
 {
     let total = page.total + text::withdrawn_sum(answers);
@@ -165,7 +165,7 @@ pub fn put_event(
     answers: &[u8],
 ) -> Paged
     requires { ⌜ Proper page × (at + 146 ≤ length (now lines)) ⌝ }
-    ensures { λ r. ⌜ ((number : ℕ) (records : List ℕ) → Printed (Printing.withEvent page (eventOf number records event (now (outgoing .entry)) (now (answers .entry)))) at (now (lines .entry)) (now (lines .exit)) r) ⌝ }
+    ensures { λ r. ⌜ ((number : ℕ) (records : List ℕ) → PutPaged (Printing.withEvent page (eventOf number records event (now (outgoing .entry)) (now (answers .entry)))) at (now (lines .entry)) (now (lines .exit)) r) ⌝ }
     ensures { λ r. ⌜ Proper (r .page) × (r .at ≤ at + 146) ⌝ }
 {
     match event {

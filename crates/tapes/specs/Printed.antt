@@ -1,4 +1,4 @@
--- What `tape` prints: the lines of what its records come to, one after the other (document 01, "Tape program"). Assumes nothing.
+-- What is printed of a tape, from what its records come to: lines by the program `tape` (document 01, "Tape program"), pages by `page` (document 02, [3]). Assumes nothing.
 use Prim.Native.Nat.{ℕ, _+_}
 use mathlib.Core.Bool.{cond}
 use mathlib.Core.List.{List, [], _∷_, _++_}
@@ -7,6 +7,13 @@ use lib.Dec.{leb}
 use Rattle.rules.specs.Areas.{byte, perPort}
 use Rattle.events.specs.Tape.{Event, nothing, refused, ticked, eventsOf}
 use Rattle.text.specs.Lines.{refusedLine, tickLine}
+use Rattle.pages.specs.declared.Page.{Page}
+use Rattle.pages.specs.Pages.{printedPages}
+use Rattle.pages.specs.Printing.{Paged, withEvent, ending}
+use Rattle.tapes.specs.declared.printing.Style.{Style}
+use Rattle.tapes.specs.declared.printing.Style.the-variants.{Lines, Pages}
+
+-- ---- lines
 
 -- The refusals 6 to 8 of a tick, each under its arrival's record.
 unfoldable pub refusedArrival : List ℕ → List ℕ → ℕ → List ℕ
@@ -25,6 +32,26 @@ unfoldable pub linesOf : List Event → List ℕ
 linesOf [] = []
 linesOf (e ∷ es) = eventLines e ++ linesOf es
 
+-- ---- either of the two
+
 -- All that is printed of a tape.
-unfoldable pub printed : List ℕ → List ℕ
-printed input = linesOf (eventsOf input)
+unfoldable pub printed : Style → List ℕ → List ℕ
+printed Lines input = linesOf (eventsOf input)
+printed Pages input = printedPages (eventsOf input)
+
+-- What goes out with an event, and the page at hand after it; lines leave that alone.
+unfoldable pub printEvent : Style → Page → Event → Paged
+printEvent Lines p e = record { page = p; text = eventLines e }
+printEvent Pages p e = withEvent p e
+
+unfoldable pub printEvents : Style → Page → List Event → Paged
+printEvents style p [] = record { page = p; text = [] }
+printEvents style p (e ∷ es) =
+    let o = printEvent style p e in
+    let rest = printEvents style (o .page) es in
+    record { page = rest .page; text = o .text ++ rest .text }
+
+-- What goes out at the tape's end.
+unfoldable pub printEnd : Style → Page → List ℕ
+printEnd Lines p = []
+printEnd Pages p = ending p

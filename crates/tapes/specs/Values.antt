@@ -7,4 +7,4 @@ use Rattle.tapes.specs.Blocks.{Place}
 
 -- A place whose router and arrivals are in the lent areas.
 abbrev pub placeOf : List ℕ → List ℕ → List ℕ → Code.Place → Place
-placeOf state memory arrivals p = record { tape = tapeOf state memory arrivals (p .pending); number = p .number }
+placeOf state memory arrivals p = record { tape = tapeOf state memory arrivals (p .pending); number = p .number; page = p .page }

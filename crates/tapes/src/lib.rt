@@ -1,3 +1,3 @@
-// What `tape` prints: the lines of what its records come to, and blocks of records.
+// What is printed of a tape, lines or pages: what goes out with a record, and with blocks of records.
 pub mod printing;
 pub mod stepping;

@@ -6,7 +6,7 @@ use native.Mathlib.Nat.{add-zero, add-suc, suc-add}
 use native.Mathlib.Numerals.{add-one}
 use native.Mathlib.Omega.{arith}
 use lib.ListN.{length, length-append, set, take, drop}
-use lib.Seq.{sets, sets-eq, set-comm, take-at}
+use lib.Seq.{sets, sets-eq, set-comm, take-at, length-take-le}
 use Rattle.rules.specs.Areas.{portsBelow}
 use Rattle.text.specs.Put.{Put}
 
@@ -33,6 +33,12 @@ pub put-port-then : (f : ℕ → List ℕ) (p : ℕ) {at m r : ℕ} {l l′ l″
 unfolding portsBelow
 put-port-then f p a b = rw (add-one p) (put-then a b)
 
--- What was printed from the start, where there is room.
+-- What stands up to the place after a text, where there is room; and where the text is all of it.
+pub take-put-after : {text before after : List ℕ} {at r : ℕ} → Put text at before after r → r ≤ length before → take r after ≡ take at before ++ text
+take-put-after {text} {before} {after} {at} p h =
+    let fits : at + length text ≤ length before = omega (arith, p .ends) in
+    let front : length (take at before ++ text) ≡ at + length text = length-append (take at before) text ∙ rw (length-take-le at before (omega arith)) in
+    rw (p .stored, p .ends, sets-eq text before at fits) (take-at (take at before ++ text) (drop (at + length text) before) (at + length text) front)
+
 pub take-put : {text before after : List ℕ} {r : ℕ} → Put text 0 before after r → r ≤ length before → take r after ≡ text
-take-put {text} {before} p h = rw (p .stored, p .ends, sets-eq text before 0 (omega (arith, p .ends))) (take-at text (drop (0 + length text) before) (0 + length text) (omega arith))
+take-put p h = take-put-after p h

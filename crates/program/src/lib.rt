@@ -1,0 +1,276 @@
+// What the programs `tape` and `page` share: records from standard input, and what is printed of them to standard output as they come. What can't be read or written is said on standard error.
+ghost use Prim.Native.Nat.{_+_, _-_, _*_, _%_, _≤_, _<_, _^_};
+ghost use mathlib.Core.Path.{_≡_};
+ghost use mathlib.Core.Bool.{true, false, cond};
+ghost use mathlib.Core.List.{[], _++_};
+ghost use lib.ListN.{length, take, drop};
+ghost use Rattle.rules.specs.Areas.{memoryLength, arrivalsLength};
+ghost use Rattle.rules.specs.Board.{board8};
+ghost use Rattle.records.specs.Records.{recordLength};
+ghost use Rattle.text.specs.Put.{Put};
+ghost use Rattle.pages.specs.Values.{Proper};
+ghost use Rattle.tapes.specs.Printed.{printEnd};
+ghost use Rattle.tapes.specs.Blocks as Blocks;
+ghost use Rattle.tapes.specs.Values.{placeOf};
+use layout::Router;
+use libc::STDERR_FILENO;
+use libc::STDIN_FILENO;
+use libc::STDOUT_FILENO;
+use pages::Page;
+use tapes::printing;
+use tapes::printing::Style;
+use tapes::stepping;
+use tapes::stepping::Place;
+use tapes::stepping::Turned;
+
+// A block has 1,024 records. There is room for 161 characters for each, as `stepping::run` asks, and for the end of a page.
+const RECORDS: usize = 1024;
+
+const BLOCK: usize = RECORDS * records::RECORD;
+
+const LINES: usize = RECORDS * 161 + 4526;
+
+// A tape is read to its end, or by 2 ^ 48 reads, which take years.
+const READS: u64 = 281474976710656;
+
+// Says on standard error, after the program's name, what it can't do.
+fn say(name: &[u8], what: &[u8]) {
+    io::write_all(STDERR_FILENO, name);
+    io::write_all(STDERR_FILENO, what);
+}
+
+// Writes to standard output, or says that it can't.
+fn write_out(name: &[u8], text: &[u8]) -> bool {
+    let written = io::write_all(STDOUT_FILENO, text);
+    if !written {
+        say(name, b"standard output can't be written\n");
+    }
+    written
+}
+
+// How many bytes a block has after a read, and whether the input has ended or can't be read.
+struct Reading {
+    filled: usize,
+    ended: bool,
+    failed: bool,
+}
+
+// Reads what is there, up to the end of a block whose first bytes are held.
+fn read_more(name: &[u8], block: &mut [u8], held: usize) -> Reading
+    requires { ⌜ held < length (now block) ⌝ }
+    ensures { λ r. ⌜ (held ≤ r .filled) × (r .filled ≤ length (now (block .exit))) ⌝ }
+    ensures { λ r. ⌜ take held (now (block .exit)) ≡ take held (now (block .entry)) ⌝ }
+{
+    let room = &mut block[held..];
+    let got = libc::read(STDIN_FILENO, room);
+    let count = io::count(got, room);
+    if got < 0 {
+        say(name, b"standard input can't be read\n");
+    }
+    Reading {
+        filled: held + count,
+        ended: got == 0,
+        failed: got < 0,
+    }
+}
+
+// The bytes of a block to take: its whole records, and at the input's end the rest too.
+fn to_take(filled: usize, ended: bool) -> usize
+    ensures { λ r. ⌜ (r ≤ filled) × (filled < r + recordLength) ⌝ }
+    ensures { λ r. ⌜ (ended ≡ false → r % recordLength ≡ 0) ⌝ }
+{
+    if ended {
+        return filled;
+    }
+    filled - filled % records::RECORD
+}
+
+// How many bytes of a block are to be taken, and how many after them are held for the next; whether the input has ended or can't be read.
+struct Input {
+    taken: usize,
+    held: usize,
+    ended: bool,
+    failed: bool,
+}
+
+// A block: the bytes held, and what is read after them. The first bytes of a record that has not all come are held again.
+fn take_in(name: &[u8], block: &mut [u8], rest: &mut [u8], held: usize) -> Input
+    requires { ⌜ (length (now block) ≡ 1024 * recordLength) × (length (now rest) ≡ recordLength) × (held < recordLength) ⌝ }
+    ensures { λ r. ⌜ take held (now (block .exit)) ≡ take held (now (rest .entry)) ⌝ }
+    ensures { λ r. ⌜ take (r .held) (now (rest .exit)) ≡ take (r .held) (drop (r .taken) (now (block .exit))) ⌝ }
+    ensures { λ r. ⌜ (r .taken + r .held ≤ 1024 * recordLength) × (r .held < recordLength) × (r .ended ≡ false → r .taken % recordLength ≡ 0) ⌝ }
+{
+    layout::copy_in(&rest[..held], block, 0);
+    let reading = read_more(name, block, held);
+    let filled = reading.filled;
+    let ended = reading.ended;
+    let taken = to_take(filled, ended);
+    layout::copy_in(&block[taken..filled], rest, 0);
+    Input {
+        taken,
+        held: filled - taken,
+        ended,
+        failed: reading.failed,
+    }
+}
+
+// What goes out at the input's end, after a place.
+fn put_end(lines: &mut [u8], at: usize, style: Style, page: Page, ended: bool) -> usize
+    requires { ⌜ Proper page × (at + 4526 ≤ length (now lines)) ⌝ }
+    ensures { λ r. ⌜ Put (cond ended (printEnd style page) []) at (now (lines .entry)) (now (lines .exit)) r ⌝ }
+    ensures { λ r. ⌜ r ≤ at + 4526 ⌝ }
+{
+    if ended {
+        return printing::put_end(lines, at, style, page);
+    }
+    at
+}
+
+// After a block's records: the place, the text's length, and whether it was written.
+struct Printed {
+    place: Place,
+    length: usize,
+    written: bool,
+}
+
+// Takes a block's records, and writes what is printed of them; at the input's end, what goes out then too.
+fn print_block(
+    name: &[u8],
+    style: Style,
+    state: &mut [u8],
+    memory: &mut [u8],
+    arrivals: &mut [u8],
+    place: Place,
+    block: &[u8],
+    ended: bool,
+    lines: &mut [u8],
+) -> Printed
+    requires { ⌜ (length (now arrivals) ≡ arrivalsLength) × (length (now block) ≤ 1024 * recordLength) × (length (now lines) ≡ 1024 * 161 + 4526) × (place .number < 2 ^ 58) × Proper (place .page) ⌝ }
+    ensures { λ r. ⌜ _≡_ {A = Blocks.Turned}
+        (record { place = placeOf (now (state .exit)) (now (memory .exit)) (now (arrivals .exit)) (r .place); text = take (r .length) (now (lines .exit)) })
+        (Blocks.ended style ended (Blocks.turned style (placeOf (now (state .entry)) (now (memory .entry)) (now (arrivals .entry)) place) (now (block .entry)))) ⌝ }
+    ensures { λ r. ⌜ Proper (r .place .page) ⌝ }
+{
+    let turned = stepping::run(state, memory, arrivals, place, block, style, lines);
+    let place = turned.place;
+    let length = put_end(lines, turned.length, style, place.page, ended);
+    let written = write_out(name, &lines[..length]);
+    Printed {
+        place,
+        length,
+        written,
+    }
+}
+
+// After a turn: what was printed, the bytes that came in, and whether there is more to do.
+struct TurnEnd {
+    printed: Printed,
+    input: Input,
+    more: bool,
+}
+
+// Takes in a block, and writes what is printed of its records.
+fn turn(
+    name: &[u8],
+    style: Style,
+    state: &mut [u8],
+    memory: &mut [u8],
+    arrivals: &mut [u8],
+    place: Place,
+    block: &mut [u8],
+    rest: &mut [u8],
+    held: usize,
+    lines: &mut [u8],
+) -> TurnEnd
+    requires { ⌜ (length (now arrivals) ≡ arrivalsLength) × (length (now block) ≡ 1024 * recordLength) × (length (now rest) ≡ recordLength) × (length (now lines) ≡ 1024 * 161 + 4526)
+        × (held < recordLength) × (place .number < 2 ^ 58) × Proper (place .page) ⌝ }
+    ensures { λ r. ⌜ _≡_ {A = Blocks.Turned}
+        (record { place = placeOf (now (state .exit)) (now (memory .exit)) (now (arrivals .exit)) (r .printed .place); text = take (r .printed .length) (now (lines .exit)) })
+        (Blocks.ended style (r .input .ended) (Blocks.turned style (placeOf (now (state .entry)) (now (memory .entry)) (now (arrivals .entry)) place) (take (r .input .taken) (now (block .exit))))) ⌝ }
+    ensures { λ r. ⌜ take held (now (block .exit)) ≡ take held (now (rest .entry)) ⌝ }
+    ensures { λ r. ⌜ take (r .input .held) (now (rest .exit)) ≡ take (r .input .held) (drop (r .input .taken) (now (block .exit))) ⌝ }
+    ensures { λ r. ⌜ (r .input .taken ≤ length (now (block .exit))) × (r .input .held < recordLength) × (r .more ≡ true → r .input .taken % recordLength ≡ 0) × Proper (r .printed .place .page) ⌝ }
+{
+    let input = take_in(name, block, rest, held);
+    let taken = input.taken;
+    let printed = print_block(
+        name,
+        style,
+        state,
+        memory,
+        arrivals,
+        place,
+        &block[..taken],
+        input.ended,
+        lines,
+    );
+    let more = !input.ended & !input.failed & printed.written;
+    TurnEnd {
+        printed,
+        input,
+        more,
+    }
+}
+
+// How the last turn ended, and how many reads there were.
+struct Ran {
+    end: TurnEnd,
+    reads: u64,
+}
+
+// The whole tape, block after block.
+fn run(
+    name: &[u8],
+    style: Style,
+    state: &mut [u8],
+    memory: &mut [u8],
+    arrivals: &mut [u8],
+    block: &mut [u8],
+    rest: &mut [u8],
+    lines: &mut [u8],
+) -> Ran
+    requires { ⌜ (length (now state) ≡ board8 .stateLength) × (length (now memory) ≡ memoryLength) × (length (now arrivals) ≡ arrivalsLength) × (length (now block) ≡ 1024 * recordLength)
+        × (length (now rest) ≡ recordLength) × (length (now lines) ≡ 1024 * 161 + 4526) ⌝ }
+    ensures { λ r. ⌜ Blocks.Reached style (take (r .end .input .taken) (now (block .exit))) (placeOf (now (state .exit)) (now (memory .exit)) (now (arrivals .exit)) (r .end .printed .place)) ⌝ }
+    ensures { λ r. ⌜ (r .end .more ≡ true → r .reads ≡ 2 ^ 48) ⌝ }
+{
+    let place = stepping::begin(state, memory, arrivals);
+    let mut end = turn(
+        name, style, state, memory, arrivals, place, block, rest, 0, lines,
+    );
+    let mut reads: u64 = 1;
+    while end.more & (reads < READS) {
+        let printed = end.printed;
+        let input = end.input;
+        let place = printed.place;
+        end = turn(
+            name, style, state, memory, arrivals, place, block, rest, input.held, lines,
+        );
+        reads += 1;
+    }
+    Ran { end, reads }
+}
+
+// Prints a tape: the program of that name.
+pub fn print(name: &[u8], style: Style) {
+    let mut state = [0u8; Router::STATE];
+    let mut memory = [0u8; Router::MEMORY];
+    let mut arrivals = [0u8; Router::ARRIVALS];
+    let mut block = [0u8; BLOCK];
+    let mut rest = [0u8; records::RECORD];
+    let mut lines = [0u8; LINES];
+    let ran = run(
+        name,
+        style,
+        &mut state,
+        &mut memory,
+        &mut arrivals,
+        &mut block,
+        &mut rest,
+        &mut lines,
+    );
+    let end = ran.end;
+    if end.more {
+        say(name, b"reading stopped after 2^48 reads\n");
+    }
+}
