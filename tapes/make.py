@@ -1,9 +1,12 @@
 #!/usr/bin/env python3
 """make.py shipped FOLDER: writes the tapes of this folder, NAME.tape, into another.
-make.py long|numbers|far N: writes a tape of N records to standard output."""
+make.py long|numbers|far N: writes a tape of N records to standard output.
+make.py pages|plain N: writes a tape of N accepted ticks."""
 import os, random, sys
 
 BLOCK = 1024    # records that the program reads at once
+PAGE = 62       # ticks on a page
+TURN = 256      # ticks after which the clock reads the same
 
 def record(*head):
     return bytes(head) + bytes(24 - len(head))
@@ -112,6 +115,43 @@ def blocks(n=2100):
     """More records than one reading takes, and a rest: ticks, arrivals and refusals by chance (fixed seed)."""
     return chance(1, n) + b"A"
 
+def no_ticks():
+    """Controls, arrivals, refused ticks and other refusals, and no accepted tick: no page."""
+    t = connect(1, 0xA1, 9, 1) + control(1, 128) + tick(32) + arrival(0, 1, 0) + arrival(0, 1, 0) + arrival(1, 9, 0)
+    return t + tick(32) + tick(255) + record(0x44) + record(0x54, 0, 1) + control(6, 0) + record(0x74)
+
+def ticks(n):
+    """n accepted ticks. The first of a page withdraws more than that of the page before, and the last one what the page has
+    stored: less than that of the page before. Between them packets on time and early, and refusals."""
+    t = connect(1, 0xA1, 9, 1) + connect(2, 0xB2, 0, 31) + connect(3, 0xC3, 0, 31) + horizon(1, 4)
+    for i in range(n):
+        page, row = divmod(i, PAGE)
+        # On port 0 early, refused with 6, on time, refused with 7.
+        t += (arrival(0, 1, i + 6), arrival(0, 9, i), arrival(0, 1, i - 3), arrival(0, 1, i - 10))[i % 4]
+        if row == 0:
+            t += b"".join(arrival(p, 2, i) for p in range(1, 3 + page))
+        else:
+            t += b"".join(arrival(p, 3, i - row + PAGE - 1) for p in range(1, 5 - page))
+        if row % 5 == 0:
+            t += record(0x44) + tick(32) + control(1, 128) + arrival(0, 1, i)
+        t += tick(1 << row % 6 & 30)
+    return t
+
+def turn(n):
+    """The first n ticks of a turn of the clock, with withdrawals and refusals now and then; nothing stays stored."""
+    t = b""
+    for i in range(n):
+        if i % 5 == 1:
+            t += b"".join(arrival(p, 1, i) for p in range(i % 3 + 2))
+        if i % 16 == 7:
+            t += tick(32) + arrival(4, 9, i)
+        t += tick(i % 32)
+    return t
+
+def pages(n):
+    """Many ticks, quickly made: turns of the clock, each like the one before."""
+    return connect(1, 0xA1, 0, 21) + turn(TURN) * (n // TURN) + turn(n % TURN)
+
 def far(n):
     """A million records by chance, and a rest: the last of each block is an arrival, so that one waits across each boundary."""
     t = bytearray(chance(n, n))
@@ -140,12 +180,15 @@ def chance(seed, n):
         count += 1
     return b"".join(out)
 
-TAPES = [refusals, turns, full, multicast, withdrawals, best_effort, queues, empty, rest, blocks]
-MADE = {"long": lambda n: chance(n, n), "numbers": lambda n: record(0) * n, "far": far}
+TAPES = {make.__name__.replace("_", "-"): make for make in (refusals, turns, full, multicast, withdrawals, best_effort, queues, empty, rest, blocks)}
+TAPES.update({f"ticks-{n}": lambda n=n: ticks(n) for n in (1, PAGE, PAGE + 1, 2 * PAGE, 2 * PAGE + 1)})
+TAPES.update({"ticks-0": no_ticks, "ticks-62-rest": lambda: ticks(PAGE) + record(0x44) + tick(32) + tick()[:23]})
+MADE = {"long": lambda n: chance(n, n), "numbers": lambda n: record(0) * n, "far": far,
+        "pages": pages, "plain": lambda n: b"".join(tick(i % 32) for i in range(n))}
 
 def ship(folder):
-    for make in TAPES:
-        with open(os.path.join(folder, make.__name__.replace("_", "-") + ".tape"), "wb") as f:
+    for name, make in TAPES.items():
+        with open(os.path.join(folder, name + ".tape"), "wb") as f:
             f.write(make())
 
 if __name__ == "__main__":
