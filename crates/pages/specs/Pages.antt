@@ -2,7 +2,7 @@
 use Prim.Native.Nat.{ℕ, zero, suc, _+_, _-_, _/_, _%_}
 use mathlib.Core.List.{List, [], _∷_, _++_, map, flatten}
 use lib.ListN.{length, take, drop, replicate}
-use Rattle.events.specs.Tape.{Event, nothing, refused, ticked, eventsOf}
+use Rattle.events.specs.Tape.{Event, nothing, refused, ticked}
 use Rattle.text.specs.Lines.{decimal, unpadded, withdrawnSum, tickText}
 
 -- An accepted tick: the clock before it, the outgoing and the answer bytes.
