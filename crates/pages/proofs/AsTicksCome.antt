@@ -1,6 +1,6 @@
 -- Text that goes out as the ticks come makes the pages: by one event after the other, with the ticks that stand on the page at hand. Assumes nothing.
-use Prim.Native.Nat.{ℕ, zero, suc, _+_, _-_, _≤_, _<_}
-use mathlib.Core.Path.{_≡_, refl, sym, ap, _∙_}
+use Prim.Native.Nat.{ℕ, suc, _+_, _-_, _≤_, _<_}
+use mathlib.Core.Path.{_≡_, refl, sym, _∙_}
 use mathlib.Core.Bool.{Bool, true, false, cond}
 use mathlib.Core.List.{List, [], _∷_, _++_, append-nil, append-assoc, map, map-append, flatten}
 use native.Mathlib.Omega.{arith}
@@ -30,6 +30,10 @@ goesOut p es = let o = withEvents p es in o .text ++ ending (o .page)
 abbrev pagesOn : ℕ → List Tick → List (List (List ℕ))
 pagesOn n ts = pagesFrom (pageCount (length ts)) n ts
 
+-- What is out and what goes out after it are the pages of all the ticks.
+abbrev MakesPages : ℕ → List Tick → List Event → Type 0
+MakesPages n b es = begun n b ++ goesOut (pageWith n b) es ≡ ended (flatten (pagesOn n (b ++ ticksOf es)))
+
 -- ---- one tick more
 
 total-then : (ts : List Tick) (t : Tick) → totalOf (ts ++ (t ∷ [])) ≡ totalOf ts + withdrawnBy t
@@ -44,7 +48,7 @@ begun-then n (x ∷ ts) t = rw (ne-eqb (suc (length ts)) 0 (λ e. omega arith), 
 
 tick-more : (n : ℕ) (ts : List Tick) (t : Tick)
     → (let c = closed (pageWith n (ts ++ (t ∷ []))) in
-      withTick (pageWith n ts) t ≡ record { page = c .page; text = opening (pageWith n ts) ++ ended (tickRow t ∷ []) ++ c .text })
+    withTick (pageWith n ts) t ≡ record { page = c .page; text = opening (pageWith n ts) ++ ended (tickRow t ∷ []) ++ c .text })
 unfolding withTick
 tick-more n ts t = rw (length-append ts (t ∷ []), total-then ts t)
 
@@ -53,10 +57,10 @@ regroup a b c d = simp append-assoc
 
 -- ---- whole pages
 
-completed : (n : ℕ) (ts : List Tick) → 0 < length ts → begun n ts ++ ended (replicate (62 - length ts) emptyRow ++ (totalLine (totalOf ts) ∷ [])) ≡ ended (pageOf n ts)
+page-completed : (n : ℕ) (ts : List Tick) → 0 < length ts → begun n ts ++ ended (replicate (62 - length ts) emptyRow ++ (totalLine (totalOf ts) ∷ [])) ≡ ended (pageOf n ts)
 unfolding pageOf
-completed n [] h = absurd (omega arith)
-completed n (t ∷ ts) h =
+page-completed n [] h = absurd (omega arith)
+page-completed n (t ∷ ts) h =
     let rows = replicate (62 - suc (length ts)) emptyRow in
     let last : List (List ℕ) = totalLine (totalOf (t ∷ ts)) ∷ [] in
     rw (append-assoc (map tickRow ts) rows last) (sym (ended-append (numberLine n ∷ map tickRow (t ∷ ts)) (rows ++ last)))
@@ -75,27 +79,24 @@ full-page n a ts h =
 
 -- ---- one event after the other
 
--- The tape's end.
-at-end : (n : ℕ) (b : List Tick) → length b ≤ 62 → begun n b ++ ending (pageWith n b) ≡ ended (flatten (pagesOn n b))
+end-makes-page : (n : ℕ) (b : List Tick) → length b ≤ 62 → begun n b ++ ending (pageWith n b) ≡ ended (flatten (pagesOn n b))
 unfolding ending ended flatten pagesFrom
-at-end n [] h = refl
-at-end n (t ∷ ts) h = rw (ne-eqb (suc (length ts)) 0 (λ e. omega arith), last-page n (t ∷ ts) (omega arith) h, append-nil (pageOf n (t ∷ ts))) (completed n (t ∷ ts) (omega arith))
+end-makes-page n [] h = refl
+end-makes-page n (t ∷ ts) h = rw (ne-eqb (suc (length ts)) 0 (λ e. omega arith), last-page n (t ∷ ts) (omega arith) h, append-nil (pageOf n (t ∷ ts))) (page-completed n (t ∷ ts) (omega arith))
 
 -- A page that has one tick more is full, or goes on.
-after-tick : (n : ℕ) (b : List Tick) (es : List Event) → 0 < length b → length b ≤ 62
-    → (length b < 62 → begun n b ++ goesOut (pageWith n b) es ≡ ended (flatten (pagesOn n (b ++ ticksOf es))))
-    → goesOut (unbegun (nextNumber n)) es ≡ ended (flatten (pagesOn (nextNumber n) (ticksOf es)))
-    → begun n b ++ (closed (pageWith n b) .text ++ goesOut (closed (pageWith n b) .page) es) ≡ ended (flatten (pagesOn n (b ++ ticksOf es)))
-unfolding closed flatten
+after-tick : (n : ℕ) (b : List Tick) (es : List Event) → 0 < length b → length b ≤ 62 → (length b < 62 → MakesPages n b es) → MakesPages (nextNumber n) [] es
+    → (let c = closed (pageWith n b) in begun n b ++ (c .text ++ goesOut (c .page) es) ≡ ended (flatten (pagesOn n (b ++ ticksOf es))))
+unfolding closed flatten totalOf
 after-tick n b es some few goes-on next = go (eqb (length b) 62) refl
   where
     go : (f : Bool) → eqb (length b) 62 ≡ f
         → (let c = cond {A = Paged} f (record { page = unbegun (nextNumber n); text = ended (totalLine (totalOf b) ∷ []) }) (record { page = pageWith n b; text = [] }) in
-          begun n b ++ (c .text ++ goesOut (c .page) es) ≡ ended (flatten (pagesOn n (b ++ ticksOf es))))
+        begun n b ++ (c .text ++ goesOut (c .page) es) ≡ ended (flatten (pagesOn n (b ++ ticksOf es))))
     go true e =
         let full = eqb-true (length b) 62 e in
-        let whole = completed n b some in
-        rw (full-page n b (ticksOf es) full, ended-append (pageOf n b) (flatten (pagesOn (nextNumber n) (ticksOf es))), ← next, ← whole, full) (sym (append-assoc (begun n b) (ended (totalLine (totalOf b) ∷ [])) (goesOut (unbegun (nextNumber n)) es)))
+        rw (full-page n b (ticksOf es) full, ended-append (pageOf n b) (flatten (pagesOn (nextNumber n) (ticksOf es))), ← next, ← page-completed n b some, full)
+        (sym (append-assoc (begun n b) (ended (totalLine (totalOf b) ∷ [])) (goesOut (unbegun (nextNumber n)) es)))
     go false e = goes-on (omega (arith, eqb-false (length b) 62 e))
 
 first-event : (p : Page) (e : Event) (es : List Event) → (let o = withEvent p e in goesOut p (e ∷ es) ≡ o .text ++ goesOut (o .page) es)
@@ -105,20 +106,20 @@ first-event p e es =
     let rest = withEvents (o .page) es in
     append-assoc (o .text) (rest .text) (ending (rest .page))
 
-right : (n : ℕ) (b : List Tick) (es : List Event) → length b < 62 → begun n b ++ goesOut (pageWith n b) es ≡ ended (flatten (pagesOn n (b ++ ticksOf es)))
+makes-pages : (n : ℕ) (b : List Tick) (es : List Event) → length b < 62 → MakesPages n b es
 unfolding withEvents withEvent ticksOf totalOf
-right n b [] h = rw (append-nil b) (at-end n b (omega arith))
-right n b (nothing ∷ es) h = right n b es h
-right n b (refused k q ∷ es) h = right n b es h
-right n b (ticked records clock out ans ∷ es) h =
+makes-pages n b [] h = rw (append-nil b) (end-makes-page n b (omega arith))
+makes-pages n b (nothing ∷ es) h = makes-pages n b es h
+makes-pages n b (refused k q ∷ es) h = makes-pages n b es h
+makes-pages n b (ticked records clock out ans ∷ es) h =
     let t : Tick = record { clock = clock; outgoing = out; answers = ans } in
     let b′ = b ++ (t ∷ []) in
     let more = length-append b (t ∷ []) in
     let c = closed (pageWith n b′) in
     rw (first-event (pageWith n b) (ticked records clock out ans) es, tick-more n b t, ← append-snoc b t (ticksOf es))
     (regroup (begun n b) (opening (pageWith n b) ++ ended (tickRow t ∷ [])) (c .text) (goesOut (c .page) es)
-    ∙ rw (begun-then n b t) (after-tick n b′ es (omega arith) (omega arith) (λ l. right n b′ es l) (right (nextNumber n) [] es (omega arith))))
+    ∙ rw (begun-then n b t) (after-tick n b′ es (omega arith) (omega arith) (λ l. makes-pages n b′ es l) (makes-pages (nextNumber n) [] es (omega arith))))
 
 pub pages-as-ticks-come : PagesAsTicksCome
 unfolding PagesAsTicksCome printedPages pagesOf totalOf
-pages-as-ticks-come es = right 1 [] es (omega arith)
+pages-as-ticks-come es = makes-pages 1 [] es (omega arith)

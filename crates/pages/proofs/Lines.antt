@@ -1,9 +1,8 @@
 -- The lines of a page as the parts that are printed one after the other. Assumes nothing.
-use Prim.Native.Nat.{ℕ, zero, suc, _+_, _-_, _≤_}
-use mathlib.Core.Path.{_≡_, refl, sym, _∙_}
+use Prim.Native.Nat.{ℕ, _+_, _-_}
+use mathlib.Core.Path.{_≡_, refl, sym}
 use mathlib.Core.List.{List, [], _∷_, _++_, append-nil, append-assoc}
-use native.Mathlib.Numerals.{add-one}
-use lib.ListN.{length, replicate, replicate-append-replicate}
+use lib.ListN.{replicate, replicate-append-replicate}
 use Rattle.text.specs.Lines.{decimal, digitsOf, unpadded}
 use Rattle.text.proofs.Numbers.{length-decimal}
 use Rattle.text.proofs.Characters.{length-tick-text}

@@ -5,7 +5,7 @@ use mathlib.Core.Bool.{Bool, true, false, cond}
 use mathlib.Core.List.{[], _∷_}
 use native.Mathlib.Omega.{arith}
 use lib.Dec.{eqb}
-use borrow.Author.Tests.{eqb-true, eqb-false}
+use borrow.Author.Tests.{eqb-false}
 use Rattle.pages.specs.declared.Page.{Page}
 use Rattle.pages.specs.Pages.{totalLine, ended, nextNumber}
 use Rattle.pages.specs.Printing.{unbegun, Paged, closed}

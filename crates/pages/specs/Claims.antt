@@ -7,7 +7,7 @@ use lib.ListN.{length, getD, take, drop}
 use lib.Dec.{eqb}
 use Rattle.events.specs.Tape.{Event, eventsOf}
 use Rattle.text.specs.Characters.{cutFrom, Reads, ReadsAtRight}
-use Rattle.pages.specs.Pages.{Tick, ticksOf, spaces, textOf, totalOf, pageCount, pagesOf, printedPages}
+use Rattle.pages.specs.Pages.{Tick, ticksOf, spaces, textOf, totalOf, pagesOf, printedPages}
 use Rattle.pages.specs.Printing.{unbegun, withEvents, ending}
 
 -- A line of a page, from 0.
@@ -46,7 +46,8 @@ ticksOn (page ∷ pages) = textsOn (take 62 (drop 1 page)) ++ ticksOn pages
 pub record PagesRight (ts : List Tick) (pages : List (List (List ℕ))) (printed : List ℕ) : Type 0 where
   -- Cut at its line feeds, what is printed is the pages' lines, and nothing after the last.
   pub lines : cutFrom [] printed ≡ flatten pages ++ ([] ∷ [])
-  pub count : length pages ≡ pageCount (length ts)
+  -- There are as many pages as the ticks need.
+  pub count : (length ts ≤ 62 * length pages) × (62 * length pages < length ts + 62)
   -- Page i + 1 shows the ticks from 62 * i on.
   pub shows : (i : ℕ) → i < length pages → Shows ((i + 1) % 10000) (take 62 (drop (62 * i) ts)) (getD pages i [])
   -- Each tick stands there once, in order.

@@ -2,7 +2,7 @@
 use Prim.Native.Nat.{ℕ, zero, suc, _+_, _-_, _/_, _%_}
 use mathlib.Core.List.{List, [], _∷_, _++_, map, flatten}
 use lib.ListN.{length, take, drop, replicate}
-use Rattle.events.specs.Tape.{Event, nothing, refused, ticked, eventsOf}
+use Rattle.events.specs.Tape.{Event, nothing, refused, ticked}
 use Rattle.text.specs.Lines.{decimal, unpadded, withdrawnSum, tickText}
 
 -- An accepted tick: the clock before it, the outgoing and the answer bytes.
@@ -91,6 +91,6 @@ unfoldable pub ended : List (List ℕ) → List ℕ
 ended [] = []
 ended (l ∷ ls) = l ++ (10 ∷ []) ++ ended ls
 
--- All that is printed of events, and of a tape.
+-- All that is printed of events.
 unfoldable pub printedPages : List Event → List ℕ
 printedPages es = ended (flatten (pagesOf (ticksOf es)))

@@ -33,6 +33,17 @@ pub digits-long : (k v : ℕ) → 10 ≤ v → digitsUpTo (suc k) v ≡ suc (dig
 unfolding digitsUpTo
 digits-long k v h = rw (le-ltb v 10 h)
 
+-- No more digits than a power of ten that is above the number.
+pub digits-few : (k j v : ℕ) → v < 10 ^ suc j → digitsUpTo k v ≤ suc j
+unfolding digitsUpTo
+digits-few zero j v h = omega arith
+digits-few (suc k) zero v h = rw (lt-ltb v 10 h) (omega arith)
+digits-few (suc k) (suc j) v h = go (ltb v 10) (digits-few k j (v / 10) (omega (arith, pow-suc 10 (suc j), h)))
+  where
+    go : (b : Bool) → digitsUpTo k (v / 10) ≤ suc j → cond b 1 (suc (digitsUpTo k (v / 10))) ≤ suc (suc j)
+    go true shorter = omega arith
+    go false shorter = omega arith
+
 -- ---- digits read back
 
 digits-append : (a b : List ℕ) → Digits a → Digits b → Digits (a ++ b)

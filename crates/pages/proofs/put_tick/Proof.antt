@@ -23,9 +23,10 @@ returns c =
     let summed = opened .before .before .before in
     let start = summed .before .before .before .before in
     let sum = summed .withdrawn-sum .ensures .0 in
-    let shut = rw sum at (closing .put-closing .ensures .0) in
-    (record { page = shut .page; text = put-then (put-then (opened .put-opening .ensures .0) (row .put-row .ensures .0)) (shut .text) },
-     (closed-proper _ _ (closing .put-closing .ensures .0 .page) (start .pre .0 .0) (search needs) (search needs), two-lines _ _ _ _ _ (opened .put-opening .ensures .1) (row .put-row .ensures .1) (closing .put-closing .ensures .1)))
+    let shut = rw sum at (closing .put-closing .ensures .0) in (
+      record { page = shut .page; text = put-then (put-then (opened .put-opening .ensures .0) (row .put-row .ensures .0)) (shut .text) },
+      (closed-proper _ _ (closing .put-closing .ensures .0 .page) (start .pre .0 .0) (search needs) (search needs), two-lines _ _ _ _ _ (opened .put-opening .ensures .1) (row .put-row .ensures .1) (closing .put-closing .ensures .1)),
+    )
 
 pub put-tick-spec : {M : Type 1} → statement M
 put-tick-spec =
