@@ -1,5 +1,5 @@
 // What the programs `tape` and `page` share: records from standard input, and what is printed of them to standard output as they come. What can't be read or written is said on standard error.
-ghost use Prim.Native.Nat.{_+_, _-_, _*_, _%_, _≤_, _<_, _^_};
+ghost use Prim.Native.Nat.{_+_, _*_, _%_, _≤_, _<_, _^_};
 ghost use mathlib.Core.Path.{_≡_};
 ghost use mathlib.Core.Bool.{true, false, cond};
 ghost use mathlib.Core.List.{[], _++_};
@@ -12,6 +12,7 @@ ghost use Rattle.pages.specs.Values.{Proper};
 ghost use Rattle.tapes.specs.Printed.{printEnd};
 ghost use Rattle.tapes.specs.Blocks as Blocks;
 ghost use Rattle.tapes.specs.Values.{placeOf};
+ghost use Rattle.program.specs.Turns.{Divided, heldBy, goesOn};
 use layout::Router;
 use libc::STDERR_FILENO;
 use libc::STDIN_FILENO;
@@ -85,33 +86,34 @@ fn to_take(filled: usize, ended: bool) -> usize
     filled - filled % records::RECORD
 }
 
-// How many bytes of a block are to be taken, and how many after them are held for the next; whether the input has ended or can't be read.
+// What was read, and how many bytes of the block are to be taken; those after them are held for the next.
 struct Input {
+    reading: Reading,
     taken: usize,
-    held: usize,
-    ended: bool,
-    failed: bool,
 }
 
 // A block: the bytes held, and what is read after them. The first bytes of a record that has not all come are held again.
 fn take_in(name: &[u8], block: &mut [u8], rest: &mut [u8], held: usize) -> Input
     requires { ⌜ (length (now block) ≡ 1024 * recordLength) × (length (now rest) ≡ recordLength) × (held < recordLength) ⌝ }
     ensures { λ r. ⌜ take held (now (block .exit)) ≡ take held (now (rest .entry)) ⌝ }
-    ensures { λ r. ⌜ take (r .held) (now (rest .exit)) ≡ take (r .held) (drop (r .taken) (now (block .exit))) ⌝ }
-    ensures { λ r. ⌜ (r .taken + r .held ≤ 1024 * recordLength) × (r .held < recordLength) × (r .ended ≡ false → r .taken % recordLength ≡ 0) ⌝ }
+    ensures { λ r. ⌜ take (heldBy r) (now (rest .exit)) ≡ take (heldBy r) (drop (r .taken) (now (block .exit))) ⌝ }
+    ensures { λ r. ⌜ Divided (length (now (block .exit))) r ⌝ }
 {
     layout::copy_in(&rest[..held], block, 0);
     let reading = read_more(name, block, held);
     let filled = reading.filled;
-    let ended = reading.ended;
-    let taken = to_take(filled, ended);
+    let taken = to_take(filled, reading.ended);
     layout::copy_in(&block[taken..filled], rest, 0);
-    Input {
-        taken,
-        held: filled - taken,
-        ended,
-        failed: reading.failed,
-    }
+    Input { reading, taken }
+}
+
+// How many bytes are held.
+fn held_after(input: Input) -> usize
+    requires { ⌜ input .taken ≤ input .reading .filled ⌝ }
+    ensures { λ r. ⌜ r ≡ heldBy input ⌝ }
+{
+    let reading = input.reading;
+    reading.filled - input.taken
 }
 
 // What goes out at the input's end, after a place.
@@ -162,14 +164,14 @@ fn print_block(
     }
 }
 
-// After a turn: what was printed, the bytes that came in, and whether there is more to do.
+// After a turn: what came in, what was printed, and whether there is more to do.
 struct TurnEnd {
-    printed: Printed,
     input: Input,
+    printed: Printed,
     more: bool,
 }
 
-// Takes in a block, and writes what is printed of its records.
+// Takes in a block, and writes what is printed of its records. A turn at the input's end, with a failed read or with a failed write is the last.
 fn turn(
     name: &[u8],
     style: Style,
@@ -186,12 +188,14 @@ fn turn(
         × (held < recordLength) × (place .number < 2 ^ 58) × Proper (place .page) ⌝ }
     ensures { λ r. ⌜ _≡_ {A = Blocks.Turned}
         (record { place = placeOf (now (state .exit)) (now (memory .exit)) (now (arrivals .exit)) (r .printed .place); text = take (r .printed .length) (now (lines .exit)) })
-        (Blocks.ended style (r .input .ended) (Blocks.turned style (placeOf (now (state .entry)) (now (memory .entry)) (now (arrivals .entry)) place) (take (r .input .taken) (now (block .exit))))) ⌝ }
+        (Blocks.ended style (r .input .reading .ended) (Blocks.turned style (placeOf (now (state .entry)) (now (memory .entry)) (now (arrivals .entry)) place) (take (r .input .taken) (now (block .exit))))) ⌝ }
     ensures { λ r. ⌜ take held (now (block .exit)) ≡ take held (now (rest .entry)) ⌝ }
-    ensures { λ r. ⌜ take (r .input .held) (now (rest .exit)) ≡ take (r .input .held) (drop (r .input .taken) (now (block .exit))) ⌝ }
-    ensures { λ r. ⌜ (r .input .taken ≤ length (now (block .exit))) × (r .input .held < recordLength) × (r .more ≡ true → r .input .taken % recordLength ≡ 0) × Proper (r .printed .place .page) ⌝ }
+    ensures { λ r. ⌜ take (heldBy (r .input)) (now (rest .exit)) ≡ take (heldBy (r .input)) (drop (r .input .taken) (now (block .exit))) ⌝ }
+    ensures { λ r. ⌜ Divided (length (now (block .exit))) (r .input) × Proper (r .printed .place .page) ⌝ }
+    ensures { λ r. ⌜ r .more ≡ goesOn r ⌝ }
 {
     let input = take_in(name, block, rest, held);
+    let reading = input.reading;
     let taken = input.taken;
     let printed = print_block(
         name,
@@ -201,13 +205,13 @@ fn turn(
         arrivals,
         place,
         &block[..taken],
-        input.ended,
+        reading.ended,
         lines,
     );
-    let more = !input.ended & !input.failed & printed.written;
+    let more = !reading.ended & !reading.failed & printed.written;
     TurnEnd {
-        printed,
         input,
+        printed,
         more,
     }
 }
@@ -218,7 +222,7 @@ struct Ran {
     reads: u64,
 }
 
-// The whole tape, block after block.
+// The whole tape, turn after turn.
 fn run(
     name: &[u8],
     style: Style,
@@ -232,19 +236,38 @@ fn run(
     requires { ⌜ (length (now state) ≡ board8 .stateLength) × (length (now memory) ≡ memoryLength) × (length (now arrivals) ≡ arrivalsLength) × (length (now block) ≡ 1024 * recordLength)
         × (length (now rest) ≡ recordLength) × (length (now lines) ≡ 1024 * 161 + 4526) ⌝ }
     ensures { λ r. ⌜ Blocks.Reached style (take (r .end .input .taken) (now (block .exit))) (placeOf (now (state .exit)) (now (memory .exit)) (now (arrivals .exit)) (r .end .printed .place)) ⌝ }
+    ensures { λ r. ⌜ r .end .more ≡ goesOn (r .end) ⌝ }
     ensures { λ r. ⌜ (r .end .more ≡ true → r .reads ≡ 2 ^ 48) ⌝ }
 {
     let place = stepping::begin(state, memory, arrivals);
     let mut end = turn(
-        name, style, state, memory, arrivals, place, block, rest, 0, lines,
+        name,
+        style,
+        state,
+        memory,
+        arrivals,
+        place,
+        block,
+        rest,
+        0,
+        lines,
     );
     let mut reads: u64 = 1;
     while end.more & (reads < READS) {
         let printed = end.printed;
-        let input = end.input;
         let place = printed.place;
+        let held = held_after(end.input);
         end = turn(
-            name, style, state, memory, arrivals, place, block, rest, input.held, lines,
+            name,
+            style,
+            state,
+            memory,
+            arrivals,
+            place,
+            block,
+            rest,
+            held,
+            lines,
         );
         reads += 1;
     }

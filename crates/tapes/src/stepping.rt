@@ -60,7 +60,15 @@ pub fn step(
     let records = pending.records;
     let event = taken.event;
     let paged = printing::put_event(
-        lines, at, style, page, number, records, event, &outgoing, &answers,
+        lines,
+        at,
+        style,
+        page,
+        number,
+        records,
+        event,
+        &outgoing,
+        &answers,
     );
     Stepped { pending, paged }
 }

@@ -34,9 +34,10 @@ returns c =
     let n = filled .read-more .result .filled - t in
     let b = filled .read-more .last .1 .0 in
     let after = drop t b in
-    let front = length-take-le (start .args .held) (start .args .rest .now) (search needs) in
-    (filled .read-more .ensures .1 ∙ stored-first _ _ _ (start .args .held) (held .copy-in .ensures) (sym front) (search needs),
-     (stored-first _ _ _ n (copied .copy-in2 .ensures) (sym (length-take-le n after (rw (length-drop t b) (search needs)))) (search needs), (search needs, search needs, counted .to-take .ensures .1)))
+    let front = length-take-le (start .args .held) (start .args .rest .now) (search needs) in (
+      filled .read-more .ensures .1 ∙ stored-first _ _ _ (start .args .held) (held .copy-in .ensures) (sym front) (search needs),
+      (stored-first _ _ _ n (copied .copy-in2 .ensures) (sym (length-take-le n after (rw (length-drop t b) (search needs)))) (search needs), (search needs, search needs, search needs, counted .to-take .ensures .1)),
+    )
 
 pub take-in-spec : {M : Type 1} → statement M
 take-in-spec =
@@ -47,5 +48,4 @@ take-in-spec =
     copy-in-requires
     (λ c κs. search needs) (λ c κs. search needs) (λ c. search needs) (λ c. search needs)
     (λ c. search needs) (λ c κs. search needs) (λ c. search needs) (λ c. search needs)
-    (λ c. search needs)
     returns)
