@@ -261,9 +261,9 @@ failed_read() { # PROGRAM
 # The page in the README is what `page` prints of that tape.
 readme_page() {
     awk '
-    index($0, "    target/bin/page < tapes/best-effort.tape") == 1 { command = 1 }
+    index($0, "    target/bin/page < tapes/ticks-62.tape") == 1 { command = 1 }
     command && /^```/ { if (block++) exit; next }
-    block' "$here/../README.md" | cmp - "$here/best-effort.pages"
+    block' "$here/../README.md" | cmp - "$here/ticks-62.pages"
 }
 
 step "the shipped tapes are those of make.py, and second.c says what is expected of them" shipped
@@ -274,10 +274,12 @@ for file in "$here"/*.tape; do
         step "$program: $tape, through a pipe" prints_from_pipe $program "$file" "$(expected $program "$tape")"
     done
 done
-example=$here/../crates/tape
-second tape < "$example/stdin" > "$build/expected"
-step "second.c on the worked example of document 01" test $? -eq 0
-step "its lines are those of document 01" cmp "$example/stdout" "$build/expected"
+for program in tape page; do
+    example=$here/../crates/$program
+    second $program < "$example/stdin" > "$build/expected"
+    step "$program: second.c on the worked example of document 01" cmp "$example/stdout" "$build/expected"
+done
+step "the worked example is one" cmp "$here/../crates/tape/stdin" "$here/../crates/page/stdin"
 step "the page in the README" readme_page
 step "made: 1,000,003 refused records" made_records numbers 1000003 0
 step "tape: 1,000,003 refused records, numbers of seven digits" agrees tape
