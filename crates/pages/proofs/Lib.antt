@@ -1,5 +1,5 @@
 pub mod Lines
-pub mod Proper
+pub mod Closing
 pub mod AsTicksCome
 pub mod Withdrawn
 pub mod Showing

@@ -8,8 +8,8 @@ use Rattle.pages.specs.declared.Paged as Code
 use Rattle.pages.specs.Printing.{Paged}
 
 -- A page that is not full; each of its ticks withdrew what ten bytes can say.
-abbrev pub Proper : Page → Type 0
-Proper p = (p .number < 10000) × (p .ticks < 62) × (p .total ≤ 327675 * p .ticks)
+abbrev pub Unfilled : Page → Type 0
+Unfilled p = (p .number < 10000) × (p .ticks < 62) × (p .total ≤ 327675 * p .ticks)
 
 -- The text is in the area, and the page at hand is that after it.
 pub record PutPaged (o : Paged) (at : ℕ) (before after : List ℕ) (r : Code.Paged) : Type 0 where

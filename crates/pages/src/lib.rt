@@ -7,9 +7,8 @@ ghost use Rattle.events.specs.Values.{eventOf};
 ghost use Rattle.text.specs.Put.{Put};
 ghost use Rattle.pages.specs.Pages.{spaces, numberLine, tickRow, emptyRow, totalLine, ended};
 ghost use Rattle.pages.specs.Printing as Printing;
-ghost use Rattle.pages.specs.Values.{Proper, PutPaged};
+ghost use Rattle.pages.specs.Values.{Unfilled, PutPaged};
 use events::Event;
-use layout::Router;
 
 // A line has 72 characters, and a page 62 ticks.
 pub const LINE: usize = 72;
@@ -140,9 +139,9 @@ fn put_tick(
     outgoing: &[u8],
     answers: &[u8],
 ) -> Paged
-    requires { ⌜ Proper page × (at + 146 ≤ length (now lines)) ⌝ }
+    requires { ⌜ Unfilled page × (at + 146 ≤ length (now lines)) ⌝ }
     ensures { λ r. ⌜ PutPaged (Printing.withTick page (record { clock = clock; outgoing = now (outgoing .entry); answers = now (answers .entry) })) at (now (lines .entry)) (now (lines .exit)) r ⌝ }
-    ensures { λ r. ⌜ Proper (r .page) × (r .at ≤ at + 146) ⌝ }
+    ensures { λ r. ⌜ Unfilled (r .page) × (r .at ≤ at + 146) ⌝ }
 {
     let total = page.total + text::withdrawn_sum(answers);
     let row = put_opening(lines, at, page);
@@ -164,9 +163,9 @@ pub fn put_event(
     outgoing: &[u8],
     answers: &[u8],
 ) -> Paged
-    requires { ⌜ Proper page × (at + 146 ≤ length (now lines)) ⌝ }
+    requires { ⌜ Unfilled page × (at + 146 ≤ length (now lines)) ⌝ }
     ensures { λ r. ⌜ ((number : ℕ) (records : List ℕ) → PutPaged (Printing.withEvent page (eventOf number records event (now (outgoing .entry)) (now (answers .entry)))) at (now (lines .entry)) (now (lines .exit)) r) ⌝ }
-    ensures { λ r. ⌜ Proper (r .page) × (r .at ≤ at + 146) ⌝ }
+    ensures { λ r. ⌜ Unfilled (r .page) × (r .at ≤ at + 146) ⌝ }
 {
     match event {
         Event::Nothing => Paged { page, at },

@@ -2,13 +2,13 @@
 ghost use Prim.Native.Nat.{_+_, _*_, _%_, _≤_, _<_, _^_};
 ghost use mathlib.Core.Path.{_≡_};
 ghost use mathlib.Core.Bool.{true, false, cond};
-ghost use mathlib.Core.List.{[], _++_};
+ghost use mathlib.Core.List.{[]};
 ghost use lib.ListN.{length, take, drop};
 ghost use Rattle.rules.specs.Areas.{memoryLength, arrivalsLength};
 ghost use Rattle.rules.specs.Board.{board8};
 ghost use Rattle.records.specs.Records.{recordLength};
 ghost use Rattle.text.specs.Put.{Put};
-ghost use Rattle.pages.specs.Values.{Proper};
+ghost use Rattle.pages.specs.Values.{Unfilled};
 ghost use Rattle.tapes.specs.Printed.{printEnd};
 ghost use Rattle.tapes.specs.Blocks as Blocks;
 ghost use Rattle.tapes.specs.Values.{placeOf};
@@ -22,7 +22,6 @@ use tapes::printing;
 use tapes::printing::Style;
 use tapes::stepping;
 use tapes::stepping::Place;
-use tapes::stepping::Turned;
 
 // A block has 1,024 records. There is room for 161 characters for each, as `stepping::run` asks, and for the end of a page.
 const RECORDS: usize = 1024;
@@ -118,7 +117,7 @@ fn held_after(input: Input) -> usize
 
 // What goes out at the input's end, after a place.
 fn put_end(lines: &mut [u8], at: usize, style: Style, page: Page, ended: bool) -> usize
-    requires { ⌜ Proper page × (at + 4526 ≤ length (now lines)) ⌝ }
+    requires { ⌜ Unfilled page × (at + 4526 ≤ length (now lines)) ⌝ }
     ensures { λ r. ⌜ Put (cond ended (printEnd style page) []) at (now (lines .entry)) (now (lines .exit)) r ⌝ }
     ensures { λ r. ⌜ r ≤ at + 4526 ⌝ }
 {
@@ -147,11 +146,11 @@ fn print_block(
     ended: bool,
     lines: &mut [u8],
 ) -> Printed
-    requires { ⌜ (length (now arrivals) ≡ arrivalsLength) × (length (now block) ≤ 1024 * recordLength) × (length (now lines) ≡ 1024 * 161 + 4526) × (place .number < 2 ^ 58) × Proper (place .page) ⌝ }
+    requires { ⌜ (length (now arrivals) ≡ arrivalsLength) × (length (now block) ≤ 1024 * recordLength) × (length (now lines) ≡ 1024 * 161 + 4526) × (place .number < 2 ^ 58) × Unfilled (place .page) ⌝ }
     ensures { λ r. ⌜ _≡_ {A = Blocks.Turned}
         (record { place = placeOf (now (state .exit)) (now (memory .exit)) (now (arrivals .exit)) (r .place); text = take (r .length) (now (lines .exit)) })
-        (Blocks.ended style ended (Blocks.turned style (placeOf (now (state .entry)) (now (memory .entry)) (now (arrivals .entry)) place) (now (block .entry)))) ⌝ }
-    ensures { λ r. ⌜ Proper (r .place .page) ⌝ }
+        (Blocks.withEnd style ended (Blocks.turned style (placeOf (now (state .entry)) (now (memory .entry)) (now (arrivals .entry)) place) (now (block .entry)))) ⌝ }
+    ensures { λ r. ⌜ Unfilled (r .place .page) ⌝ }
 {
     let turned = stepping::run(state, memory, arrivals, place, block, style, lines);
     let place = turned.place;
@@ -185,13 +184,13 @@ fn turn(
     lines: &mut [u8],
 ) -> TurnEnd
     requires { ⌜ (length (now arrivals) ≡ arrivalsLength) × (length (now block) ≡ 1024 * recordLength) × (length (now rest) ≡ recordLength) × (length (now lines) ≡ 1024 * 161 + 4526)
-        × (held < recordLength) × (place .number < 2 ^ 58) × Proper (place .page) ⌝ }
+        × (held < recordLength) × (place .number < 2 ^ 58) × Unfilled (place .page) ⌝ }
     ensures { λ r. ⌜ _≡_ {A = Blocks.Turned}
         (record { place = placeOf (now (state .exit)) (now (memory .exit)) (now (arrivals .exit)) (r .printed .place); text = take (r .printed .length) (now (lines .exit)) })
-        (Blocks.ended style (r .input .reading .ended) (Blocks.turned style (placeOf (now (state .entry)) (now (memory .entry)) (now (arrivals .entry)) place) (take (r .input .taken) (now (block .exit))))) ⌝ }
+        (Blocks.withEnd style (r .input .reading .ended) (Blocks.turned style (placeOf (now (state .entry)) (now (memory .entry)) (now (arrivals .entry)) place) (take (r .input .taken) (now (block .exit))))) ⌝ }
     ensures { λ r. ⌜ take held (now (block .exit)) ≡ take held (now (rest .entry)) ⌝ }
     ensures { λ r. ⌜ take (heldBy (r .input)) (now (rest .exit)) ≡ take (heldBy (r .input)) (drop (r .input .taken) (now (block .exit))) ⌝ }
-    ensures { λ r. ⌜ Divided (length (now (block .exit))) (r .input) × Proper (r .printed .place .page) ⌝ }
+    ensures { λ r. ⌜ Divided (length (now (block .exit))) (r .input) × Unfilled (r .printed .place .page) ⌝ }
     ensures { λ r. ⌜ r .more ≡ goesOn r ⌝ }
 {
     let input = take_in(name, block, rest, held);

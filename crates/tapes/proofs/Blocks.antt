@@ -11,17 +11,17 @@ use Rattle.pages.specs.Printing.{Paged}
 use Rattle.tapes.specs.declared.printing.Style.{Style}
 use Rattle.tapes.specs.declared.printing.Style.the-variants.{Lines, Pages}
 use Rattle.tapes.specs.Printed.{printed, printEvents, printEnd}
-use Rattle.tapes.specs.Blocks.{Place, begin, Turned, turned, ended, looped, Whole, BlocksPrintTheTape, Reached}
+use Rattle.tapes.specs.Blocks.{Place, begin, Turned, turned, withEnd, looped, Whole, BlocksPrintTheTape, Reached}
 use Rattle.tapes.proofs.Texts.{print-append, lines-whole, pages-whole}
 
 -- ---- blocks
 
 module _ (style : Style) where
-  abbrev textOf : Turned → Paged
-  textOf o = record { page = o .place .page; text = o .text }
+  abbrev pagedOf : Turned → Paged
+  pagedOf o = record { page = o .place .page; text = o .text }
 
   looped-joined : (p : Place) (blocks : List (List ℕ)) (last : List ℕ) → Whole blocks
-      → textOf (looped style p (blocks ++ (last ∷ []))) ≡ printEvents style (p .page) (after (p .tape) (p .number) (flatten blocks ++ last) (recordsIn (flatten blocks ++ last)) .events)
+      → pagedOf (looped style p (blocks ++ (last ∷ []))) ≡ printEvents style (p .page) (after (p .tape) (p .number) (flatten blocks ++ last) (recordsIn (flatten blocks ++ last)) .events)
   unfolding looped turned flatten Whole
   looped-joined p [] last w = rw (append-nil (turned style p last .text))
   looped-joined p (b ∷ bs) last w =
@@ -32,7 +32,7 @@ module _ (style : Style) where
       (ap (λ (o : Paged). record { page = o .page; text = turned style p b .text ++ o .text }) (looped-joined (turned style p b .place) bs last (w .1)))
 
 pub blocks-print-the-tape : BlocksPrintTheTape
-unfolding BlocksPrintTheTape ended printed eventsOf
+unfolding BlocksPrintTheTape withEnd printed eventsOf
 blocks-print-the-tape Lines blocks last w = ap (λ (o : Paged). o .text ++ printEnd Lines (o .page)) (looped-joined Lines begin blocks last w) ∙ lines-whole (eventsOf (flatten blocks ++ last))
 blocks-print-the-tape Pages blocks last w = ap (λ (o : Paged). o .text ++ printEnd Pages (o .page)) (looped-joined Pages begin blocks last w) ∙ pages-whole (eventsOf (flatten blocks ++ last))
 

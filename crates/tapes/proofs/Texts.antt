@@ -1,6 +1,6 @@
 -- What goes out with events one after the other, and with one record more; and that in each style it is all that is printed of them. Assumes nothing.
 use Prim.Native.Nat.{ℕ, suc, _+_}
-use mathlib.Core.Path.{_≡_, refl, sym, ap, _∙_}
+use mathlib.Core.Path.{_≡_, refl}
 use mathlib.Core.List.{List, [], _∷_, _++_, append-nil, append-assoc}
 use native.Mathlib.Numerals.{add-one}
 use native.Mathlib.Omega.{arith}
@@ -10,13 +10,13 @@ use Rattle.text.proofs.Put.{put-then}
 use Rattle.pages.specs.declared.Page.{Page}
 use Rattle.pages.specs.declared.Paged as Code
 use Rattle.pages.specs.Pages.{printedPages}
-use Rattle.pages.specs.Printing.{unbegun, Paged, withEvent, withEvents, ending}
+use Rattle.pages.specs.Printing.{unbegun, Paged, withEvent, withEvents}
 use Rattle.pages.specs.Claims.{PagesAsTicksCome}
 use Rattle.pages.specs.Values.{PutPaged}
 use Rattle.pages.proofs.AsTicksCome.{pages-as-ticks-come}
 use Rattle.tapes.specs.declared.printing.Style.{Style}
 use Rattle.tapes.specs.declared.printing.Style.the-variants.{Lines, Pages}
-use Rattle.tapes.specs.Printed.{eventLines, linesOf, printEvent, printEvents, printEnd}
+use Rattle.tapes.specs.Printed.{linesOf, printEvent, printEvents, printEnd}
 
 -- ---- one after the other
 

@@ -32,8 +32,8 @@ turned style p block =
     record { place = record { tape = o .tape; number = p .number + recordsIn block; page = t .page }; text = t .text }
 
 -- The last turn's text has what goes out at the tape's end too.
-unfoldable pub ended : Style → Bool → Turned → Turned
-ended style last o = record { place = o .place; text = o .text ++ cond last (printEnd style (o .place .page)) [] }
+unfoldable pub withEnd : Style → Bool → Turned → Turned
+withEnd style last o = record { place = o .place; text = o .text ++ cond last (printEnd style (o .place .page)) [] }
 
 -- The loop, over the blocks in the order of their reading: each turn gets the place that the last left, and its text comes after those before.
 unfoldable pub looped : Style → Place → List (List ℕ) → Turned
@@ -51,7 +51,7 @@ Whole (block ∷ blocks) = (length block % recordLength ≡ 0) × Whole blocks
 -- The claim. Of the last block nothing is asked: it may be empty, or end in a rest of fewer than 24 bytes.
 unfoldable pub BlocksPrintTheTape : Type 0
 BlocksPrintTheTape = (style : Style) (blocks : List (List ℕ)) (last : List ℕ) → Whole blocks
-    → ended style true (looped style begin (blocks ++ (last ∷ []))) .text ≡ printed style (flatten blocks ++ last)
+    → withEnd style true (looped style begin (blocks ++ (last ∷ []))) .text ≡ printed style (flatten blocks ++ last)
 
 -- The place is that after such blocks, of which the last is known.
 unfoldable pub Reached : Style → List ℕ → Place → Type 0

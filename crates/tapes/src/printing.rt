@@ -4,7 +4,7 @@ ghost use lib.ListN.{length};
 ghost use Rattle.rules.specs.Areas.{perPort};
 ghost use Rattle.events.specs.Values.{eventOf};
 ghost use Rattle.text.specs.Put.{Put};
-ghost use Rattle.pages.specs.Values.{Proper, PutPaged};
+ghost use Rattle.pages.specs.Values.{Unfilled, PutPaged};
 ghost use Rattle.tapes.specs.Printed.{refusedArrival, tickedLines, eventLines, printEvent, printEnd};
 use events::Event;
 use layout::Router;
@@ -105,9 +105,9 @@ pub fn put_event(
     outgoing: &[u8],
     answers: &[u8],
 ) -> Paged
-    requires { ⌜ Proper page × (at + 161 ≤ length (now lines)) ⌝ }
+    requires { ⌜ Unfilled page × (at + 161 ≤ length (now lines)) ⌝ }
     ensures { λ r. ⌜ PutPaged (printEvent style page (eventOf number records event (now (outgoing .entry)) (now (answers .entry)))) at (now (lines .entry)) (now (lines .exit)) r ⌝ }
-    ensures { λ r. ⌜ Proper (r .page) × (r .at ≤ at + 161) ⌝ }
+    ensures { λ r. ⌜ Unfilled (r .page) × (r .at ≤ at + 161) ⌝ }
 {
     match style {
         Style::Lines => {
@@ -120,7 +120,7 @@ pub fn put_event(
 
 // What goes out at the tape's end, at most 62 lines.
 pub fn put_end(lines: &mut [u8], at: usize, style: Style, page: Page) -> usize
-    requires { ⌜ Proper page × (at + 4526 ≤ length (now lines)) ⌝ }
+    requires { ⌜ Unfilled page × (at + 4526 ≤ length (now lines)) ⌝ }
     ensures { λ r. ⌜ Put (printEnd style page) at (now (lines .entry)) (now (lines .exit)) r ⌝ }
     ensures { λ r. ⌜ r ≤ at + 4526 ⌝ }
 {

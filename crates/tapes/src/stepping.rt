@@ -7,7 +7,7 @@ ghost use Rattle.rules.specs.Board.{board8};
 ghost use Rattle.records.specs.Records.{recordsIn};
 ghost use Rattle.events.specs.Tape.{takeRecord};
 ghost use Rattle.events.specs.Values.{tapeOf};
-ghost use Rattle.pages.specs.Values.{Proper, PutPaged};
+ghost use Rattle.pages.specs.Values.{Unfilled, PutPaged};
 ghost use Rattle.tapes.specs.Printed.{printEvent};
 ghost use Rattle.tapes.specs.Blocks as Blocks;
 ghost use Rattle.tapes.specs.Values.{placeOf};
@@ -37,12 +37,12 @@ pub fn step(
     lines: &mut [u8],
     at: usize,
 ) -> Stepped
-    requires { ⌜ (length (now arrivals) ≡ arrivalsLength) × Proper page × (at + 161 ≤ length (now lines)) ⌝ }
+    requires { ⌜ (length (now arrivals) ≡ arrivalsLength) × Unfilled page × (at + 161 ≤ length (now lines)) ⌝ }
     ensures { λ r. ⌜ tapeOf (now (state .exit)) (now (memory .exit)) (now (arrivals .exit)) (r .pending)
         ≡ takeRecord (tapeOf (now (state .entry)) (now (memory .entry)) (now (arrivals .entry)) pending) number (now (bytes .entry)) .tape ⌝ }
     ensures { λ r. ⌜ PutPaged (printEvent style page (takeRecord (tapeOf (now (state .entry)) (now (memory .entry)) (now (arrivals .entry)) pending) number (now (bytes .entry)) .event))
         at (now (lines .entry)) (now (lines .exit)) (r .paged) ⌝ }
-    ensures { λ r. ⌜ Proper (r .paged .page) × (r .paged .at ≤ at + 161) ⌝ }
+    ensures { λ r. ⌜ Unfilled (r .paged .page) × (r .paged .at ≤ at + 161) ⌝ }
 {
     let mut outgoing = [0u8; Router::OUTGOING];
     let mut answers = [0u8; Router::ANSWERS];
@@ -110,11 +110,11 @@ pub fn run(
     style: Style,
     lines: &mut [u8],
 ) -> Turned
-    requires { ⌜ (length (now arrivals) ≡ arrivalsLength) × Proper (place .page) × (161 * recordsIn (now block) ≤ length (now lines)) × (place .number + length (now block) < 2 ^ 60) ⌝ }
+    requires { ⌜ (length (now arrivals) ≡ arrivalsLength) × Unfilled (place .page) × (161 * recordsIn (now block) ≤ length (now lines)) × (place .number + length (now block) < 2 ^ 60) ⌝ }
     ensures { λ r. ⌜ _≡_ {A = Blocks.Turned}
         (record { place = placeOf (now (state .exit)) (now (memory .exit)) (now (arrivals .exit)) (r .place); text = take (r .length) (now (lines .exit)) })
         (Blocks.turned style (placeOf (now (state .entry)) (now (memory .entry)) (now (arrivals .entry)) place) (now (block .entry))) ⌝ }
-    ensures { λ r. ⌜ Proper (r .place .page) ⌝ }
+    ensures { λ r. ⌜ Unfilled (r .place .page) ⌝ }
     ensures { λ r. ⌜ r .length ≤ 161 * recordsIn (now (block .entry)) ⌝ }
 {
     let count = (block.len() + 23) / records::RECORD;

@@ -3,7 +3,7 @@ use native.Mathlib.Omega.{arith}
 use borrow.Author.Needs.{needs}
 use Rattle.text.proofs.Put.{put-then}
 use Rattle.pages.specs.Printing.{withTick}
-use Rattle.pages.proofs.Proper.{closed-proper, two-lines}
+use Rattle.pages.proofs.Closing.{closed-unfilled, two-lines}
 use Rattle.pages.proofs.put_tick.Statement.{statement}
 use Rattle.pages.proofs.put_tick.Tie as tie
 
@@ -25,7 +25,7 @@ returns c =
     let sum = summed .withdrawn-sum .ensures .0 in
     let shut = rw sum at (closing .put-closing .ensures .0) in (
       record { page = shut .page; text = put-then (put-then (opened .put-opening .ensures .0) (row .put-row .ensures .0)) (shut .text) },
-      (closed-proper _ _ (closing .put-closing .ensures .0 .page) (start .pre .0 .0) (search needs) (search needs), two-lines _ _ _ _ _ (opened .put-opening .ensures .1) (row .put-row .ensures .1) (closing .put-closing .ensures .1)),
+      (closed-unfilled _ _ (closing .put-closing .ensures .0 .page) (start .pre .0 .0) (search needs) (search needs), two-lines _ _ _ _ _ (opened .put-opening .ensures .1) (row .put-row .ensures .1) (closing .put-closing .ensures .1)),
     )
 
 pub put-tick-spec : {M : Type 1} → statement M

@@ -4,7 +4,7 @@ use native.Mathlib.Omega.{arith}
 use lib.Seq.{length-take-le}
 use borrow.Author.Needs.{needs}
 use Rattle.text.proofs.Put.{take-put-after}
-use Rattle.tapes.specs.Blocks.{ended}
+use Rattle.tapes.specs.Blocks.{withEnd}
 use Rattle.program.proofs.print_block.Statement.{statement}
 use Rattle.program.proofs.print_block.Tie as tie
 
@@ -18,7 +18,7 @@ slice-aggregate-write-out c =
     sym (length-take-le (put .put-end .result) (put .put-end .last .0) (omega (arith, kept .lines2 .given, put .put-end .ensures .1, lent .lines .given, ran .run .ensures .1 .1, pre .1, pre .2)))
 
 returns : tie.Need-returns
-unfolding ended
+unfolding withEnd
 returns c =
     let put = c .before .before .before .before in
     let lent = put .before .before .before .before in

@@ -1,8 +1,8 @@
 -- `run` meets its contract and ends. The loop's invariant: the areas keep their lengths, the place is reached by the blocks taken so far, and where there is more to do those had whole records.
 -- The measure is what is left of the bound on reads. Assumes nothing.
-use Prim.Native.Nat.{ℕ, _+_, _*_, _%_, _-_, _≤_, _<_}
+use Prim.Native.Nat.{ℕ, _+_, _*_, _-_, _≤_}
 use mathlib.Core.Path.{_≡_, sym, ap, _∙_}
-use mathlib.Core.Bool.{Bool, true}
+use mathlib.Core.Bool.{true}
 use mathlib.Core.List.{List}
 use native.Mathlib.Omega.{arith}
 use lib.ListN.{length, length-take, take}
@@ -10,9 +10,9 @@ use borrow.Author.Needs.{needs}
 use borrow.Author.Tests.{ltb-true, ltb-false}
 use Rattle.rules.proofs.Booleans.{and-left, and-right, not-false}
 use Rattle.records.specs.Records.{recordLength}
-use Rattle.pages.specs.Values.{Proper}
+use Rattle.pages.specs.Values.{Unfilled}
 use Rattle.tapes.specs.declared.printing.Style.{Style}
-use Rattle.tapes.specs.Blocks.{Place, begin, Turned, turned, ended, Reached}
+use Rattle.tapes.specs.Blocks.{Place, begin, Turned, turned, withEnd, Reached}
 use Rattle.tapes.specs.Values.{placeOf}
 use Rattle.tapes.proofs.Blocks.{Passed, passed-none, passed-whole, reached-then}
 use Rattle.program.specs.declared.TurnEnd.{TurnEnd}
@@ -22,12 +22,12 @@ use Rattle.program.proofs.run.Tie as tie
 
 -- After a turn whose block was divided so: the place is reached; if there is more to do, it is passed, and has at most 1,024 records more.
 module _ (style : Style) (t : TurnEnd) (p q : Place) (block l : List ℕ)
-    (e : _≡_ {A = Turned} (record { place = q; text = l }) (ended style (t .input .reading .ended) (turned style p (take (t .input .taken) block)))) (passed : Passed style p) where
+    (e : _≡_ {A = Turned} (record { place = q; text = l }) (withEnd style (t .input .reading .ended) (turned style p (take (t .input .taken) block)))) (passed : Passed style p) where
   abbrev taken : List ℕ
   taken = take (t .input .taken) block
 
   after-turn : q ≡ turned style p taken .place
-  unfolding ended
+  unfolding withEnd
   after-turn = ap (λ (o : Turned). o .place) e
 
   pub turn-reached : Reached style taken q
@@ -46,14 +46,14 @@ module _ (p : Place) (e : p ≡ begin) where
   pub number-begun : p .number ≡ 0
   number-begun = ap (λ (r : Place). r .number) e
 
-  pub page-begun : Proper (p .page)
+  pub page-begun : Unfilled (p .page)
   page-begun = rw e (omega arith, omega arith, omega arith)
 
 abbrev Inv-loop : tie.InvT-loop
 Inv-loop name style state₀ memory₀ arrivals₀ block₀ rest₀ lines₀ end₀ reads₀ state memory arrivals block rest lines end reads =
     let p = placeOf state memory arrivals (end .printed .place) in
     ((length state ≡ length state₀) × (length memory ≡ length memory₀) × (length arrivals ≡ length arrivals₀) × (length block ≡ length block₀) × (length rest ≡ length rest₀) × (length lines ≡ length lines₀))
-    × (reads ≤ 281474976710656) × Divided (length block) (end .input) × Proper (end .printed .place .page) × (end .more ≡ goesOn end) × Reached style (take (end .input .taken) block) p
+    × (reads ≤ 281474976710656) × Divided (length block) (end .input) × Unfilled (end .printed .place .page) × (end .more ≡ goesOn end) × Reached style (take (end .input .taken) block) p
     × (end .more ≡ true → Passed style p × (p .number ≤ 1024 * reads))
 
 abbrev μ-loop : tie.MeasureT-loop

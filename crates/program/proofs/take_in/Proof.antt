@@ -6,7 +6,6 @@ use native.Mathlib.Omega.{arith}
 use lib.ListN.{length, length-drop, take, drop}
 use lib.Seq.{sets, length-take-le}
 use borrow.Author.Needs.{needs}
-use Rattle.text.specs.Put.{Put}
 use Rattle.text.proofs.Put.{take-put}
 use Rattle.program.proofs.take_in.Statement.{statement}
 use Rattle.program.proofs.take_in.Tie as tie

@@ -9,7 +9,7 @@ use Rattle.records.specs.Records.{recordsIn}
 use Rattle.events.specs.Tape.{after}
 use Rattle.events.specs.Values.{tapeOf}
 use Rattle.text.proofs.Put.{put-nothing, take-put}
-use Rattle.pages.specs.Values.{Proper, PutPaged}
+use Rattle.pages.specs.Values.{Unfilled, PutPaged}
 use Rattle.tapes.specs.Printed.{printEvents}
 use Rattle.tapes.specs.Blocks.{turned}
 use Rattle.tapes.proofs.Texts.{tape-then, text-then}
@@ -19,7 +19,7 @@ use Rattle.tapes.proofs.stepping.run.Tie as tie
 abbrev Inv-loop : tie.InvT-loop
 Inv-loop state₀ memory₀ arrivals₀ block style lines₀ count number pending₀ page₀ at₀ i₀ state memory arrivals lines pending page at i =
     let o = after (tapeOf state₀ memory₀ arrivals₀ pending₀) number block i in
-    ((i ≤ count) × (at ≤ 161 * i) × (length state ≡ length state₀) × (length memory ≡ length memory₀) × (length arrivals ≡ length arrivals₀) × (length lines ≡ length lines₀) × Proper page)
+    ((i ≤ count) × (at ≤ 161 * i) × (length state ≡ length state₀) × (length memory ≡ length memory₀) × (length arrivals ≡ length arrivals₀) × (length lines ≡ length lines₀) × Unfilled page)
     × (tapeOf state memory arrivals pending ≡ o .tape) × PutPaged (printEvents style page₀ (o .events)) 0 lines₀ lines (record { page = page; at = at })
 
 abbrev μ-loop : tie.MeasureT-loop

@@ -1,4 +1,4 @@
--- A tick more leaves the page at hand proper, and takes no more than two lines. Assumes nothing.
+-- A tick more leaves a page at hand that is not full, and takes no more than two lines. Assumes nothing.
 use Prim.Native.Nat.{ℕ, zero, suc, _+_, _*_, _≤_, _<_}
 use mathlib.Core.Path.{_≡_, refl}
 use mathlib.Core.Bool.{Bool, true, false, cond}
@@ -9,13 +9,13 @@ use borrow.Author.Tests.{eqb-false}
 use Rattle.pages.specs.declared.Page.{Page}
 use Rattle.pages.specs.Pages.{totalLine, ended, nextNumber}
 use Rattle.pages.specs.Printing.{unbegun, Paged, closed}
-use Rattle.pages.specs.Values.{Proper}
+use Rattle.pages.specs.Values.{Unfilled}
 
-pub closed-proper : (p q : Page) → q ≡ closed p .page → p .number < 10000 → p .ticks ≤ 62 → p .total ≤ 327675 * p .ticks → Proper q
+pub closed-unfilled : (p q : Page) → q ≡ closed p .page → p .number < 10000 → p .ticks ≤ 62 → p .total ≤ 327675 * p .ticks → Unfilled q
 unfolding closed
-closed-proper p q e n t w = rw e (go (eqb (p .ticks) 62) refl)
+closed-unfilled p q e n t w = rw e (go (eqb (p .ticks) 62) refl)
   where
-    go : (b : Bool) → eqb (p .ticks) 62 ≡ b → Proper (cond {A = Paged} b (record { page = unbegun (nextNumber (p .number)); text = ended (totalLine (p .total) ∷ []) }) (record { page = p; text = [] }) .page)
+    go : (b : Bool) → eqb (p .ticks) 62 ≡ b → Unfilled (cond {A = Paged} b (record { page = unbegun (nextNumber (p .number)); text = ended (totalLine (p .total) ∷ []) }) (record { page = p; text = [] }) .page)
     go true f = (omega arith, omega arith, omega arith)
     go false f = (n, omega (arith, eqb-false (p .ticks) 62 f), w)
 
