@@ -11,7 +11,7 @@ use borrow.Author.Tests.{ne-eqb, eqb-true, eqb-false}
 use Rattle.events.specs.Tape.{Event, nothing, refused, ticked}
 use Rattle.pages.specs.declared.Page.{Page}
 use Rattle.pages.specs.Pages.{Tick, ticksOf, numberLine, tickRow, emptyRow, withdrawnBy, totalOf, totalLine, pageOf, nextNumber, pagesFrom, pageCount, pagesOf, ended, printedPages}
-use Rattle.pages.specs.Printing.{unbegun, Paged, opening, closed, withTick, withEvent, ending, withEvents}
+use Rattle.pages.specs.Printing.{unbegun, Paged, opening, closed, withTick, withEvent, ending, inOrder}
 use Rattle.pages.specs.Claims.{PagesAsTicksCome}
 use Rattle.pages.proofs.Lines.{ended-append}
 
@@ -24,7 +24,7 @@ begun n [] = []
 begun n (t ∷ ts) = ended (numberLine n ∷ map tickRow (t ∷ ts))
 
 abbrev goesOut : Page → List Event → List ℕ
-goesOut p es = let o = withEvents p es in o .text ++ ending (o .page)
+goesOut p es = let o = inOrder withEvent p es in o .text ++ ending (o .page)
 
 -- The pages of ticks, the first of number n.
 abbrev pagesOn : ℕ → List Tick → List (List (List ℕ))
@@ -100,14 +100,14 @@ after-tick n b es some few goes-on next = go (eqb (length b) 62) refl
     go false e = goes-on (omega (arith, eqb-false (length b) 62 e))
 
 first-event : (p : Page) (e : Event) (es : List Event) → (let o = withEvent p e in goesOut p (e ∷ es) ≡ o .text ++ goesOut (o .page) es)
-unfolding withEvents
+unfolding inOrder
 first-event p e es =
     let o = withEvent p e in
-    let rest = withEvents (o .page) es in
+    let rest = inOrder withEvent (o .page) es in
     append-assoc (o .text) (rest .text) (ending (rest .page))
 
 makes-pages : (n : ℕ) (b : List Tick) (es : List Event) → length b < 62 → MakesPages n b es
-unfolding withEvents withEvent ticksOf totalOf
+unfolding inOrder withEvent ticksOf totalOf
 makes-pages n b [] h = rw (append-nil b) (end-makes-page n b (omega arith))
 makes-pages n b (nothing ∷ es) h = makes-pages n b es h
 makes-pages n b (refused k q ∷ es) h = makes-pages n b es h

@@ -8,7 +8,7 @@ use lib.Dec.{eqb}
 use Rattle.events.specs.Tape.{Event, eventsOf}
 use Rattle.text.specs.Characters.{cutFrom, Reads, ReadsAtRight}
 use Rattle.pages.specs.Pages.{Tick, ticksOf, spaces, textOf, totalOf, pagesOf, printedPages}
-use Rattle.pages.specs.Printing.{unbegun, withEvents, ending}
+use Rattle.pages.specs.Printing.{unbegun, withEvent, inOrder, ending}
 
 -- A line of a page, from 0.
 abbrev pub line : List (List ℕ) → ℕ → List ℕ
@@ -57,4 +57,4 @@ unfoldable pub PagesShowTheTape : Type 0
 PagesShowTheTape = (input : List ℕ) → let es = eventsOf input in let ts = ticksOf es in PagesRight ts (pagesOf ts) (printedPages es)
 
 unfoldable pub PagesAsTicksCome : Type 0
-PagesAsTicksCome = (es : List Event) → let o = withEvents (unbegun 1) es in o .text ++ ending (o .page) ≡ printedPages es
+PagesAsTicksCome = (es : List Event) → let o = inOrder withEvent (unbegun 1) es in o .text ++ ending (o .page) ≡ printedPages es

@@ -39,10 +39,10 @@ withEvent p (ticked records t out ans) = withTick p (record { clock = t; outgoin
 unfoldable pub ending : Page → List ℕ
 ending p = cond (eqb (p .ticks) 0) [] (ended (replicate (pageTicks - p .ticks) emptyRow ++ (totalLine (p .total) ∷ [])))
 
--- Events one after the other.
-unfoldable pub withEvents : Page → List Event → Paged
-withEvents p [] = record { page = p; text = [] }
-withEvents p (e ∷ es) =
-    let o = withEvent p e in
-    let rest = withEvents (o .page) es in
+-- Events one after the other, by what goes out with one.
+unfoldable pub inOrder : (Page → Event → Paged) → Page → List Event → Paged
+inOrder step p [] = record { page = p; text = [] }
+inOrder step p (e ∷ es) =
+    let o = step p e in
+    let rest = inOrder step (o .page) es in
     record { page = rest .page; text = o .text ++ rest .text }

@@ -10,7 +10,7 @@ use Rattle.text.proofs.Put.{put-then}
 use Rattle.pages.specs.declared.Page.{Page}
 use Rattle.pages.specs.declared.Paged as Code
 use Rattle.pages.specs.Pages.{printedPages}
-use Rattle.pages.specs.Printing.{unbegun, Paged, withEvent, withEvents}
+use Rattle.pages.specs.Printing.{unbegun, Paged, inOrder}
 use Rattle.pages.specs.Claims.{PagesAsTicksCome}
 use Rattle.pages.specs.Values.{PutPaged}
 use Rattle.pages.proofs.AsTicksCome.{pages-as-ticks-come}
@@ -24,7 +24,7 @@ abbrev then : Paged → Paged → Paged
 then a b = record { page = b .page; text = a .text ++ b .text }
 
 pub print-append : (style : Style) (p : Page) (a b : List Event) → printEvents style p (a ++ b) ≡ then (printEvents style p a) (printEvents style (printEvents style p a .page) b)
-unfolding printEvents
+unfolding inOrder
 print-append style p [] b = refl
 print-append style p (e ∷ a) b =
     let o = printEvent style p e in
@@ -46,7 +46,7 @@ module _ (σ : Tape) (k : ℕ) (b : List ℕ) (i : ℕ) (τ : Tape) (so-far : τ
   pub text-then : (style : Style) (p : Page) (q r : Code.Paged) {l l′ l″ : List ℕ} {at : ℕ}
       → PutPaged (printEvents style p (after σ k b i .events)) at l l′ q → PutPaged (printEvent style (q .page) (next .event)) (q .at) l′ l″ r
       → PutPaged (printEvents style p (after σ k b (i + 1) .events)) at l l″ r
-  unfolding after printEvents
+  unfolding after inOrder
   text-then style p q r x y =
       let s : k + suc i ≡ k + i + 1 = omega arith in
       let z = rw (x .page) at y in
@@ -57,14 +57,9 @@ module _ (σ : Tape) (k : ℕ) (b : List ℕ) (i : ℕ) (τ : Tape) (so-far : τ
 -- ---- all that is printed
 
 all-lines : (p : Page) (es : List Event) → printEvents Lines p es ≡ record { page = p; text = linesOf es }
-unfolding printEvents printEvent linesOf
+unfolding inOrder printEvent linesOf
 all-lines p [] = refl
 all-lines p (e ∷ es) = rw (all-lines p es)
-
-all-pages : (p : Page) (es : List Event) → printEvents Pages p es ≡ withEvents p es
-unfolding printEvents printEvent withEvents
-all-pages p [] = refl
-all-pages p (e ∷ es) = rw (all-pages (withEvent p e .page) es)
 
 -- With what goes out at the end.
 abbrev pub whole : Style → List Event → List ℕ
@@ -75,5 +70,5 @@ unfolding printEnd
 lines-whole es = rw (all-lines (unbegun 1) es) (append-nil (linesOf es))
 
 pub pages-whole : (es : List Event) → whole Pages es ≡ printedPages es
-unfolding printEnd PagesAsTicksCome
-pages-whole es = rw (all-pages (unbegun 1) es) (pages-as-ticks-come es)
+unfolding printEvent printEnd PagesAsTicksCome
+pages-whole es = pages-as-ticks-come es

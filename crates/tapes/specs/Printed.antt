@@ -9,7 +9,7 @@ use Rattle.events.specs.Tape.{Event, nothing, refused, ticked, eventsOf}
 use Rattle.text.specs.Lines.{refusedLine, tickLine}
 use Rattle.pages.specs.declared.Page.{Page}
 use Rattle.pages.specs.Pages.{printedPages}
-use Rattle.pages.specs.Printing.{Paged, withEvent, ending}
+use Rattle.pages.specs.Printing.{Paged, withEvent, inOrder, ending}
 use Rattle.tapes.specs.declared.printing.Style.{Style}
 use Rattle.tapes.specs.declared.printing.Style.the-variants.{Lines, Pages}
 
@@ -44,12 +44,8 @@ unfoldable pub printEvent : Style → Page → Event → Paged
 printEvent Lines p e = record { page = p; text = eventLines e }
 printEvent Pages p e = withEvent p e
 
-unfoldable pub printEvents : Style → Page → List Event → Paged
-printEvents style p [] = record { page = p; text = [] }
-printEvents style p (e ∷ es) =
-    let o = printEvent style p e in
-    let rest = printEvents style (o .page) es in
-    record { page = rest .page; text = o .text ++ rest .text }
+abbrev pub printEvents : Style → Page → List Event → Paged
+printEvents style p es = inOrder (printEvent style) p es
 
 -- What goes out at the tape's end.
 unfoldable pub printEnd : Style → Page → List ℕ

@@ -10,6 +10,7 @@ use Rattle.events.specs.Tape.{after}
 use Rattle.events.specs.Values.{tapeOf}
 use Rattle.text.proofs.Put.{put-nothing, take-put}
 use Rattle.pages.specs.Values.{Unfilled, PutPaged}
+use Rattle.pages.specs.Printing.{inOrder}
 use Rattle.tapes.specs.Printed.{printEvents}
 use Rattle.tapes.specs.Blocks.{turned}
 use Rattle.tapes.proofs.Texts.{tape-then, text-then}
@@ -26,7 +27,7 @@ abbrev μ-loop : tie.MeasureT-loop
 μ-loop state₀ memory₀ arrivals₀ block style lines₀ count number pending₀ page₀ at₀ i₀ state memory arrivals lines pending page at i = count - i
 
 loop-holds : tie.Need-loop-holds Inv-loop μ-loop
-unfolding after printEvents
+unfolding after inOrder
 loop-holds c = (search needs, refl, record { page = refl; text = put-nothing _ _ })
 
 loop-again : tie.Need-loop-again Inv-loop μ-loop
