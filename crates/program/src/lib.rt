@@ -215,6 +215,28 @@ fn turn(
     }
 }
 
+// Before the first turn: nothing has come in, and there is more to do.
+fn unread(place: Place) -> TurnEnd
+    ensures { λ r. ⌜ (r .printed .place ≡ place) × (r .input .taken ≡ 0) × Divided 0 (r .input) × (r .more ≡ true) × (r .more ≡ goesOn r) ⌝ }
+{
+    let reading = Reading {
+        filled: 0,
+        ended: false,
+        failed: false,
+    };
+    let input = Input { reading, taken: 0 };
+    let printed = Printed {
+        place,
+        length: 0,
+        written: true,
+    };
+    TurnEnd {
+        input,
+        printed,
+        more: true,
+    }
+}
+
 // How the last turn ended, and how many reads there were.
 struct Ran {
     end: TurnEnd,
@@ -239,19 +261,8 @@ fn run(
     ensures { λ r. ⌜ (r .end .more ≡ true → r .reads ≡ 2 ^ 48) ⌝ }
 {
     let place = stepping::begin(state, memory, arrivals);
-    let mut end = turn(
-        name,
-        style,
-        state,
-        memory,
-        arrivals,
-        place,
-        block,
-        rest,
-        0,
-        lines,
-    );
-    let mut reads: u64 = 1;
+    let mut end = unread(place);
+    let mut reads: u64 = 0;
     while end.more & (reads < READS) {
         let printed = end.printed;
         let place = printed.place;

@@ -2,12 +2,13 @@
 use Prim.Native.Nat.{ℕ, _+_, _*_, _%_}
 use mathlib.Core.Path.{_≡_, refl, ap, _∙_}
 use mathlib.Core.List.{List, [], _∷_, _++_, append-nil, append-assoc, flatten}
+use native.Mathlib.Nat.{add-zero}
 use native.Mathlib.Omega.{arith}
 use lib.ListN.{length, length-append}
 use Rattle.records.specs.Records.{recordLength, recordsIn}
 use Rattle.events.specs.Tape.{after, eventsOf}
 use Rattle.events.proofs.Joined.{after-joined}
-use Rattle.pages.specs.Printing.{Paged}
+use Rattle.pages.specs.Printing.{Paged, inOrder}
 use Rattle.tapes.specs.declared.printing.Style.{Style}
 use Rattle.tapes.specs.declared.printing.Style.the-variants.{Lines, Pages}
 use Rattle.tapes.specs.Printed.{printed, printEvents, printEnd}
@@ -64,3 +65,8 @@ passed-whole style b p r h = (r .0 ++ (b ∷ []), whole-then (r .0) b (r .1) h, 
 pub reached-then : (style : Style) (p : Place) → Passed style p → (b : List ℕ) (q : Place) → q ≡ turned style p b .place → Reached style b q
 unfolding Reached
 reached-then style p passed b q e = (passed .0, passed .1, rw (looped-then style begin (passed .0) b, ← passed .2, e))
+
+-- A turn of nothing.
+pub reached-none : (style : Style) (p : Place) → p ≡ begin → Reached style [] p
+unfolding turned after inOrder
+reached-none style p e = reached-then style p (passed-none style p e) [] p (rw (add-zero (p .number)))

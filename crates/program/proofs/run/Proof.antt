@@ -14,7 +14,7 @@ use Rattle.pages.specs.Values.{Unfilled}
 use Rattle.tapes.specs.declared.printing.Style.{Style}
 use Rattle.tapes.specs.Blocks.{Place, begin, Turned, turned, withEnd, Reached}
 use Rattle.tapes.specs.Values.{placeOf}
-use Rattle.tapes.proofs.Blocks.{Passed, passed-none, passed-whole, reached-then}
+use Rattle.tapes.proofs.Blocks.{Passed, passed-none, passed-whole, reached-none, reached-then}
 use Rattle.program.specs.declared.TurnEnd.{TurnEnd}
 use Rattle.program.specs.Turns.{Divided, goesOn}
 use Rattle.program.proofs.run.Statement.{statement}
@@ -41,13 +41,16 @@ module _ (style : Style) (t : TurnEnd) (p q : Place) (block l : List ℕ)
       let whole = divided .3 going in
       (passed-whole style taken q turn-reached (omega (arith, many, whole, divided .0, divided .1)), omega (arith, ap (λ (r : Place). r .number) after-turn, many, divided .0, divided .1, full))
 
--- A place at the beginning.
+-- Before the first turn.
 module _ (p : Place) (e : p ≡ begin) where
-  pub number-begun : p .number ≡ 0
-  number-begun = ap (λ (r : Place). r .number) e
+  pub begun-reached : (style : Style) (n : ℕ) (block : List ℕ) → n ≡ 0 → Reached style (take n block) p
+  begun-reached style n block none = rw none (reached-none style p e)
 
-  pub page-begun : Unfilled (p .page)
-  page-begun = rw e (omega arith, omega arith, omega arith)
+  pub begun-passed : (style : Style) → Passed style p × (p .number ≤ 1024 * 0)
+  begun-passed style = (passed-none style p e, omega (arith, ap (λ (r : Place). r .number) e))
+
+  pub begun-page : Unfilled (p .page)
+  begun-page = rw e (omega arith, omega arith, omega arith)
 
 abbrev Inv-loop : tie.InvT-loop
 Inv-loop name style state₀ memory₀ arrivals₀ block₀ rest₀ lines₀ end₀ reads₀ state memory arrivals block rest lines end reads =
@@ -59,48 +62,26 @@ Inv-loop name style state₀ memory₀ arrivals₀ block₀ rest₀ lines₀ end
 abbrev μ-loop : tie.MeasureT-loop
 μ-loop name style state₀ memory₀ arrivals₀ block₀ rest₀ lines₀ end₀ reads₀ state memory arrivals block rest lines end reads = 281474976710656 - reads
 
-turn-requires : tie.Need-turn-requires Inv-loop μ-loop
-turn-requires c κs =
-    let begun = c .before .before .before .before .before .before .before .before .before .before .before .before .begin .ensures in
-    (search needs, search needs, search needs, search needs, search needs, omega (arith, number-begun _ begun), page-begun _ begun)
-
 loop-holds : tie.Need-loop-holds Inv-loop μ-loop
 loop-holds c =
-    let block = c .before .before .before .before .before in
-    let turned = block .before .before .before .before .before .before .before in
-    let begun = turned .before .before .before .before .before .before .before .before .before .before .before .before .before in
-    let t = turned .turn in
-    let b = t .last .1 .1 .1 .1 .1 .1 .0 in
-    let f = t .ensures .1 .1 .1 in
-    let start = begun .begin .ensures in
-    let passed = passed-none _ _ start in
-    let full : length b ≡ 1024 * recordLength = omega (arith, block .block .given, begun .before .before .before .before .before .before .before .before .before .before .before .pre .3) in (
-      search needs,
-      search needs,
-      f .0 .0,
-      f .0 .1,
-      f .1,
-      turn-reached _ (t .result) _ _ b _ (t .ensures .0) passed,
-      λ more. let r = turn-passed _ (t .result) _ _ b _ (t .ensures .0) passed full (f .0 .0) (f .1) more in (r .0, omega (arith, r .1, number-begun _ start)),
-    )
+    let u = c .unread .ensures in
+    let begun = rw (← u .0) at (c .before .before .before .before .before .before .before .begin .ensures) in
+    let d = u .2 in
+    (search needs, search needs, (omega (arith, d .0), d .1, d .2, d .3), begun-page _ begun, u .4, begun-reached _ begun _ _ _ (u .1), λ more. begun-passed _ begun _)
 
 held-after-requires : tie.Need-held-after-requires Inv-loop μ-loop
 held-after-requires c κs = c .before .before .before .before .loop .inv .2 .1
 
-turn-requires-2 : tie.Need-turn-requires-2 Inv-loop μ-loop
-turn-requires-2 c κs =
+turn-requires : tie.Need-turn-requires Inv-loop μ-loop
+turn-requires c κs =
     let test = c .before .before .before .before .before .before .before .before .before in
     let l = test .before .before .loop in
-    let lines = test .before .before .before .before in
-    let rest = lines .before .before in
-    let block = rest .before .before in
-    let arrivals = block .before .before in
-    let begun = arrivals .before .before .before .before .before .before .before .before .before .before .before .before .before in
+    let begun = test .before .before .before .before .before in
     let p = begun .before .before .before .before .before .before .before .before .before .before .before .before .before .before .before .before .pre in (
-      omega (arith, l .inv .0 .2, arrivals .arrivals2 .given, begun .arrivals .given, p .2),
-      omega (arith, l .inv .0 .3, block .block .given, p .3),
-      omega (arith, l .inv .0 .4, rest .rest .given, p .4),
-      omega (arith, l .inv .0 .5, lines .lines .given, p .5),
+      omega (arith, l .inv .0 .2, begun .arrivals .given, p .2),
+      omega (arith, l .inv .0 .3, p .3),
+      omega (arith, l .inv .0 .4, p .4),
+      omega (arith, l .inv .0 .5, p .5),
       omega (arith, c .before .before .before .before .before .before .held-after .ensures, l .inv .2 .2),
       omega (arith, l .inv .6 (and-left _ _ (test .if1 .taken)) .1, ltb-true (l .reads) _ (and-right (l .end .more) _ (test .if1 .taken))),
       l .inv .3,
@@ -126,14 +107,13 @@ loop-again c =
     let turned = state .before in
     let test = turned .before .before .before .before .before .before .before .before .before .before in
     let l = test .before .before .loop in
-    let entered = test .before .before .before .before .before .before .before .before in
-    let t = turned .turn2 in
+    let t = turned .turn in
     let b = t .last .1 .1 .1 .1 .1 .1 .0 in
     let f = t .ensures .1 .1 .1 in
     let before = l .inv .6 (and-left _ _ (test .if1 .taken)) in
     let below = ltb-true (l .reads) _ (and-right (l .end .more) _ (test .if1 .taken)) in
-    let full : length b ≡ 1024 * recordLength = omega (arith, block .block2 .given, l .inv .0 .3, entered .block .given, entered .before .before .before .before .before .before .before .before .before .before .before .before .before .before .before .before .before .before .before .before .before .before .before .before .before .before .before .before .before .before .before .pre .3) in (
-      (omega (arith, state .state3 .given, l .inv .0 .0), omega (arith, memory .memory3 .given, l .inv .0 .1), omega (arith, arrivals .arrivals3 .given, l .inv .0 .2), omega (arith, block .block2 .given, l .inv .0 .3), omega (arith, rest .rest2 .given, l .inv .0 .4), omega (arith, lines .lines2 .given, l .inv .0 .5)),
+    let full : length b ≡ 1024 * recordLength = omega (arith, block .block .given, l .inv .0 .3, test .before .before .before .before .before .before .before .before .before .before .before .before .before .before .before .before .before .before .before .before .before .pre .3) in (
+      (omega (arith, state .state2 .given, l .inv .0 .0), omega (arith, memory .memory2 .given, l .inv .0 .1), omega (arith, arrivals .arrivals2 .given, l .inv .0 .2), omega (arith, block .block .given, l .inv .0 .3), omega (arith, rest .rest .given, l .inv .0 .4), omega (arith, lines .lines .given, l .inv .0 .5)),
       omega arith,
       f .0 .0,
       f .0 .1,
@@ -141,21 +121,6 @@ loop-again c =
       turn-reached _ (t .result) _ _ b _ (t .ensures .0) (before .0),
       λ more. let r = turn-passed _ (t .result) _ _ b _ (t .ensures .0) (before .0) full (f .0 .0) (f .1) more in (r .0, omega (arith, r .1, before .1)),
     )
-
-same-length : tie.Need-same-length Inv-loop μ-loop
-same-length c =
-    let turned = c .before .before .before .before .before .before .before .before .before .before .before .before .before .before in
-    omega (arith, c .before .before .loop .inv .0 .0, turned .state2 .given, turned .before .before .before .before .before .before .before .before .before .before .before .before .before .state .given)
-
-same-length-2 : tie.Need-same-length-2 Inv-loop μ-loop
-same-length-2 c =
-    let turned = c .before .before .before .before .before .before .before .before .before .before .before .before in
-    omega (arith, c .before .before .loop .inv .0 .1, turned .memory2 .given, turned .before .before .before .before .before .before .before .before .before .before .before .before .before .memory .given)
-
-same-length-3 : tie.Need-same-length-3 Inv-loop μ-loop
-same-length-3 c =
-    let turned = c .before .before .before .before .before .before .before .before .before .before in
-    omega (arith, c .before .before .loop .inv .0 .2, turned .arrivals2 .given, turned .before .before .before .before .before .before .before .before .before .before .before .before .before .arrivals .given)
 
 returns : tie.Need-returns Inv-loop μ-loop
 returns c =
@@ -168,16 +133,13 @@ run-spec =
     (tie.spec
     Inv-loop
     μ-loop
-    (λ c κs. search needs)
-    turn-requires
+    (λ c κs. search needs) (λ c κs. search needs)
     loop-holds
     held-after-requires
-    turn-requires-2
+    turn-requires
     add-reads
     loop-less
     loop-again
-    same-length
-    same-length-2
-    same-length-3
-    (λ c. search needs) (λ c. search needs) (λ c. search needs)
+    (λ c. search needs) (λ c. search needs) (λ c. search needs) (λ c. search needs)
+    (λ c. search needs) (λ c. search needs)
     returns)
