@@ -10,10 +10,9 @@ use Rattle.events.specs.Tape.{after, eventsOf}
 use Rattle.events.proofs.Joined.{after-joined}
 use Rattle.pages.specs.Printing.{Paged, inOrder}
 use Rattle.tapes.specs.declared.printing.Style.{Style}
-use Rattle.tapes.specs.declared.printing.Style.the-variants.{Lines, Pages}
-use Rattle.tapes.specs.Printed.{printed, printEvents, printEnd}
+use Rattle.tapes.specs.Printed.{printEvents, printEnd}
 use Rattle.tapes.specs.Blocks.{Place, begin, Turned, turned, withEnd, looped, Whole, BlocksPrintTheTape, Reached}
-use Rattle.tapes.proofs.Texts.{print-append, lines-whole, pages-whole}
+use Rattle.tapes.proofs.Texts.{print-append, all-printed}
 
 -- ---- blocks
 
@@ -33,9 +32,8 @@ module _ (style : Style) where
       (ap (λ (o : Paged). record { page = o .page; text = turned style p b .text ++ o .text }) (looped-joined (turned style p b .place) bs last (w .1)))
 
 pub blocks-print-the-tape : BlocksPrintTheTape
-unfolding BlocksPrintTheTape withEnd printed eventsOf
-blocks-print-the-tape Lines blocks last w = ap (λ (o : Paged). o .text ++ printEnd Lines (o .page)) (looped-joined Lines begin blocks last w) ∙ lines-whole (eventsOf (flatten blocks ++ last))
-blocks-print-the-tape Pages blocks last w = ap (λ (o : Paged). o .text ++ printEnd Pages (o .page)) (looped-joined Pages begin blocks last w) ∙ pages-whole (eventsOf (flatten blocks ++ last))
+unfolding BlocksPrintTheTape withEnd eventsOf
+blocks-print-the-tape style blocks last w = ap (λ (o : Paged). o .text ++ printEnd style (o .page)) (looped-joined style begin blocks last w) ∙ all-printed style (flatten blocks ++ last)
 
 -- ---- the loop, turn after turn
 

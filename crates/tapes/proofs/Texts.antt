@@ -5,18 +5,17 @@ use mathlib.Core.List.{List, [], _∷_, _++_, append-nil, append-assoc}
 use native.Mathlib.Numerals.{add-one}
 use native.Mathlib.Omega.{arith}
 use Rattle.records.specs.Records.{recordAt}
-use Rattle.events.specs.Tape.{Tape, Event, Taken, takeRecord, after}
+use Rattle.events.specs.Tape.{Tape, Event, Taken, takeRecord, after, eventsOf}
 use Rattle.text.proofs.Put.{put-then}
 use Rattle.pages.specs.declared.Page.{Page}
 use Rattle.pages.specs.declared.Paged as Code
-use Rattle.pages.specs.Pages.{printedPages}
 use Rattle.pages.specs.Printing.{unbegun, Paged, inOrder}
 use Rattle.pages.specs.Claims.{PagesAsTicksCome}
 use Rattle.pages.specs.Values.{PutPaged}
 use Rattle.pages.proofs.AsTicksCome.{pages-as-ticks-come}
 use Rattle.tapes.specs.declared.printing.Style.{Style}
 use Rattle.tapes.specs.declared.printing.Style.the-variants.{Lines, Pages}
-use Rattle.tapes.specs.Printed.{linesOf, printEvent, printEvents, printEnd}
+use Rattle.tapes.specs.Printed.{linesOf, printed, printEvent, printEvents, printEnd}
 
 -- ---- one after the other
 
@@ -62,13 +61,7 @@ all-lines p [] = refl
 all-lines p (e ∷ es) = rw (all-lines p es)
 
 -- With what goes out at the end.
-abbrev pub whole : Style → List Event → List ℕ
-whole style es = let o = printEvents style (unbegun 1) es in o .text ++ printEnd style (o .page)
-
-pub lines-whole : (es : List Event) → whole Lines es ≡ linesOf es
-unfolding printEnd
-lines-whole es = rw (all-lines (unbegun 1) es) (append-nil (linesOf es))
-
-pub pages-whole : (es : List Event) → whole Pages es ≡ printedPages es
-unfolding printEvent printEnd PagesAsTicksCome
-pages-whole es = pages-as-ticks-come es
+pub all-printed : (style : Style) (input : List ℕ) → (let o = printEvents style (unbegun 1) (eventsOf input) in o .text ++ printEnd style (o .page) ≡ printed style input)
+unfolding printEvent printEnd printed PagesAsTicksCome
+all-printed Lines input = rw (all-lines (unbegun 1) (eventsOf input)) (append-nil (linesOf (eventsOf input)))
+all-printed Pages input = pages-as-ticks-come (eventsOf input)

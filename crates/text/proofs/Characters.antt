@@ -1,4 +1,4 @@
--- The characters of a text: how many a tick's has, that it begins with `T`, and that none of it is a line feed. Assumes nothing.
+-- The characters of a text, by its parts: how many a tick's has, that none of them is a line feed, and that a line ends at the first one. Assumes nothing.
 use Prim.Native.Nat.{ℕ, zero, suc, _+_, _*_, _/_, _%_}
 use mathlib.Core.Path.{_≡_, refl, _∙_}
 use mathlib.Core.Bool.{Bool, true, false, cond}

@@ -2,9 +2,9 @@
 -- Assumes nothing.
 use Prim.Native.Nat.{ℕ, _+_, _≤_, _-_}
 use mathlib.Core.Path.{_≡_, refl, _∙_}
+use mathlib.Core.List.{List}
 use native.Mathlib.Omega.{arith}
 use lib.ListN.{length, set, length-set, replicate, length-replicate, replicate-append-replicate}
-use mathlib.Core.List.{List}
 use lib.Seq.{sets}
 use borrow.Author.Needs.{needs}
 use Rattle.text.proofs.Put.{last-first}
