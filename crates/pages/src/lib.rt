@@ -39,8 +39,8 @@ pub fn first() -> Page
     }
 }
 
-// Spaces, and the line feed that ends a line.
-fn put_spaces(lines: &mut [u8], at: usize, count: usize) -> usize
+// Spaces, and the line feed that ends their line.
+fn end_line(lines: &mut [u8], at: usize, count: usize) -> usize
     requires { ⌜ at + count + 1 ≤ length (now lines) ⌝ }
     ensures { λ r. ⌜ Put (spaces count ++ (10 ∷ [])) at (now (lines .entry)) (now (lines .exit)) r ⌝ }
     ensures { λ r. ⌜ r ≡ at + count + 1 ⌝ }
@@ -68,7 +68,7 @@ fn put_row(lines: &mut [u8], at: usize, clock: u8, outgoing: &[u8], answers: &[u
     ensures { λ r. ⌜ r ≡ at + 73 ⌝ }
 {
     let end = text::put_tick_text(lines, at, clock, outgoing, answers);
-    put_spaces(lines, end, LINE - 30)
+    end_line(lines, end, LINE - 30)
 }
 
 // Lines without a tick.
@@ -80,7 +80,7 @@ fn put_empty_rows(lines: &mut [u8], at: usize, count: usize) -> usize
     let mut place = at;
     let mut i: usize = 0;
     while i < count {
-        place = put_spaces(lines, place, LINE);
+        place = end_line(lines, place, LINE);
         i += 1;
     }
     place
@@ -93,7 +93,7 @@ fn put_total(lines: &mut [u8], at: usize, total: u64) -> usize
     ensures { λ r. ⌜ r ≡ at + 73 ⌝ }
 {
     let end = text::put_decimal(lines, at, 6, total);
-    put_spaces(lines, end, LINE - 6)
+    end_line(lines, end, LINE - 6)
 }
 
 // The first line of a page that a tick begins.

@@ -26,7 +26,7 @@ loop-holds c = (search needs, refl, search needs, put-nothing _ _)
 loop-again : tie.Need-loop-again Inv-loop μ-loop
 loop-again c =
     let l = c .before .before .before .before .before .loop in
-    (search needs, search needs, search needs, rw (← empty-then (l .i)) (put-then (l .inv .3) (c .before .before .put-spaces .ensures .0)))
+    (search needs, search needs, search needs, rw (← empty-then (l .i)) (put-then (l .inv .3) (c .before .before .end-line .ensures .0)))
 
 returns : tie.Need-returns Inv-loop μ-loop
 returns c =

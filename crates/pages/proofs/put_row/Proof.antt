@@ -7,7 +7,7 @@ use Rattle.pages.proofs.put_row.Tie as tie
 
 returns : tie.Need-returns
 returns c =
-    (rw (← row-parts _) (put-then (c .before .before .before .before .before .before .put-tick-text .ensures .0) (c .before .before .put-spaces .ensures .0)), search needs)
+    (rw (← row-parts _) (put-then (c .before .before .before .before .before .before .put-tick-text .ensures .0) (c .before .before .end-line .ensures .0)), search needs)
 
 pub put-row-spec : {M : Type 1} → statement M
 put-row-spec = tie.close (tie.spec (λ c κs. search needs) (λ c. search needs) (λ c κs. search needs) (λ c. search needs) returns)
