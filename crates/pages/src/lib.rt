@@ -11,9 +11,9 @@ ghost use Rattle.pages.specs.Values.{Unfilled, PutPaged};
 use events::Event;
 
 // A line has 72 characters, and a page 62 ticks.
-pub const LINE: usize = 72;
+const LINE: usize = 72;
 
-pub const TICKS: usize = 62;
+const TICKS: usize = 62;
 
 // The page at hand: its number, how many ticks stand on it, and how many packets these withdrew. It is begun by its first tick.
 pub struct Page {
