@@ -1,7 +1,7 @@
 // Step 2 of a tick: one pass over the slots finds the winners of the five ports.
 ghost use mathlib.Core.Path.{_≡_};
 ghost use mathlib.Core.Bool.{cond};
-ghost use Prim.Native.Nat.{suc, _<_};
+ghost use Prim.Native.Nat.{suc, _+_, _*_, _<_};
 ghost use lib.ListN.{length};
 ghost use Rattle.rules.specs.Areas.{nobody, bestEffort};
 ghost use Rattle.rules.specs.Board.{clock, board8};
@@ -16,9 +16,9 @@ use layout::Router;
 use layout::SlotAddress;
 
 // Where the ranks of early slots begin, and the rank of no slot.
-const EARLY: u32 = 65536;
+const EARLY: u32 = 16777216;
 
-const NONE: u32 = 131072;
+const NONE: u32 = 33554432;
 
 // Who has a port.
 pub enum Grant {
@@ -28,17 +28,32 @@ pub enum Grant {
     Early(SlotAddress),
 }
 
-// A slot's key and address as one number, the on-time ones first.
+// Two keys and an address as the digits of a number.
+fn digits(key: u8, second: u8, s: SlotAddress) -> u32
+    ensures { λ r. ⌜ r ≡ (key * 256 + second) * 256 + s .0 ⌝ }
+{
+    ((key as u32) * 256 + second as u32) * 256 + s.0 as u32
+}
+
+// A slot's keys and address as one number, the on-time ones first.
 pub fn rank(state: &[u8], t: ClockReading, s: SlotAddress) -> u32
     requires { ⌜ t .0 ≡ board8 .get (now state) clock ⌝ }
     ensures { λ r. ⌜ r ≡ Ranks.slotRank board8 (now (state .entry)) (s .0) ⌝ }
 {
-    let time = ClockReading(layout::get(state, Field::Time(s)));
-    if clock::on_time(time, t) {
-        let deadline = ClockReading(layout::get(state, Field::Deadline(s)));
-        return (clock::since(deadline, t) as u32) * 256 + s.0 as u32;
+    let slot = layout::times(state, s);
+    if clock::on_time(slot.time, t) {
+        return digits(
+            clock::since(slot.deadline, t),
+            clock::raised_offset(slot.time, t),
+            s,
+        );
     }
-    EARLY + (clock::since(time, t) as u32) * 256 + s.0 as u32
+    EARLY
+        + digits(
+            clock::since(slot.time, t),
+            clock::since(slot.deadline, t),
+            s,
+        )
 }
 
 fn lesser(rank: u32, best: u32) -> u32
@@ -103,7 +118,7 @@ fn scan(state: &[u8], end: usize) -> [u32; Router::PORTS]
 
 // A port sends early slots whose ranks are below this: none where best-effort waits, else those within the horizon, which are below `ahead`.
 fn bound(waits: bool, ahead: u32) -> u32
-    ensures { λ r. ⌜ r ≡ cond waits 65536 ahead ⌝ }
+    ensures { λ r. ⌜ r ≡ cond waits 16777216 ahead ⌝ }
 {
     if waits { EARLY } else { ahead }
 }
@@ -132,7 +147,7 @@ fn choose(state: &[u8], waiting: u8, port: u8, best: u32) -> Grant
         return unsent(waits);
     }
     let horizon = layout::get(state, Field::Horizon(port));
-    if best < bound(waits, EARLY + (horizon as u32 + 1) * 256) {
+    if best < bound(waits, EARLY + (horizon as u32 + 1) * 65536) {
         return Grant::Early(slot);
     }
     unsent(waits)

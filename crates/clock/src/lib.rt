@@ -3,7 +3,7 @@ ghost use mathlib.Core.Path.{_≡_};
 ghost use lib.IntN.{pos, negℤ};
 ghost use lib.Signed.{leZ};
 ghost use Rattle.rules.specs.Clock.{plus, minus, offset};
-ghost use Rattle.rules.specs.Areas.{bits};
+ghost use Rattle.rules.specs.Areas.{bits, half};
 use layout::ClockReading;
 use layout::Router;
 
@@ -19,6 +19,13 @@ pub fn since(time: ClockReading, t: ClockReading) -> u8
     ensures { λ r. ⌜ r ≡ minus (bits 1) (time .0) (t .0) ⌝ }
 {
     std::num::wrapping_sub_u8(time.0, t.0)
+}
+
+// The offset, from 0 on: how many ticks a time comes after half a turn before t.
+pub fn raised_offset(time: ClockReading, t: ClockReading) -> u8
+    ensures { λ r. ⌜ r ≡ plus (bits 1) (minus (bits 1) (time .0) (t .0)) (half 1) ⌝ }
+{
+    std::num::wrapping_add_u8(since(time, t), Router::HALF)
 }
 
 // The offset is at most 0.

@@ -1,18 +1,19 @@
 -- A port's choice by its queues: the first that waits for the port, read from a queue's bytes; a slot's key, read from its rank; and whom the two first ones grant the port. Assumes nothing.
 use Prim.Native.Nat.{ℕ, _+_, _*_, _/_, _%_, _<_}
-use mathlib.Core.Path.{_≡_, refl, sym, subst}
+use mathlib.Core.Path.{_≡_, refl, sym, ap, subst}
 use mathlib.Core.Bool.{Bool, true, false, cond}
 use mathlib.Core.List.{List}
 use mathlib.Core.Option.{Option, none, some}
 use native.Mathlib.Decide.{decLt}
 use native.Mathlib.Omega.{arith}
 use lib.Dec.{leb}
+use lib.IntN.{pos}
 use Rattle.rules.specs.Areas.{bits, has, Grant, nobody, bestEffort, onTime, early}
 use Rattle.rules.specs.Board.{Horizon, Mask, board8}
 use Rattle.rules.specs.Tick.{slotKey}
 use Rattle.rules.proofs.Booleans.{some-inj, none-some}
-use Rattle.rules.proofs.ClockLaws.{minus-lt}
-use Rattle.passes.specs.Ranks.{slotRank}
+use Rattle.passes.specs.Ranks.{firstDigit, secondDigit, slotRank}
+use Rattle.passes.proofs.Ranks.{first-lt, second-lt}
 use Rattle.passes.specs.Sends.{Winner}
 use Rattle.queues.specs.Area.{queue}
 use Rattle.queues.specs.Engine.{first, heading, tableGrant, queueGrant}
@@ -26,14 +27,13 @@ some-heads s p e em et = rw (← e, ← em, et)
 
 -- ---- a slot's key
 
--- The key of slot i is the second byte of its rank r.
-pub rank-key : (s : List ℕ) (i : ℕ) → i < 256 → (r : ℕ) → r ≡ slotRank board8 s i → r / 256 % 256 ≡ slotKey board8 s i .key
+-- The key of slot i is the third digit of its rank r.
+pub rank-key : (s : List ℕ) (i : ℕ) → i < 256 → (r : ℕ) → r ≡ slotRank board8 s i → pos (r / 65536 % 256) ≡ slotKey board8 s i .key
 unfolding slotKey bits
-rank-key s i h r e = go (slotKey board8 s i .early) (slotKey board8 s i .key) (minus-lt 8 _ _) e
+rank-key s i h r e = ap pos (go _ (firstDigit board8 s i) (secondDigit board8 s i) (first-lt board8 s i) (second-lt board8 s i) e)
   where
-    go : (a : Bool) (k : ℕ) → k < 256 → r ≡ cond a (256 * 256) 0 + k * 256 + i → r / 256 % 256 ≡ k
-    go true k l e = omega arith
-    go false k l e = omega arith
+    go : (a k q : ℕ) → k < 256 → q < 256 → r ≡ ((a * 256 + k) * 256 + q) * 256 + i → r / 65536 % 256 ≡ k
+    go a k q hk hq e = omega arith
 
 -- ---- whom the first ones grant the port
 
@@ -71,7 +71,7 @@ module _ (s q : List ℕ) (waiting p : ℕ) where
   Neither = (none ≡ head s q p false) × (has waiting p ≡ false)
 
   -- Else the first early one, if its key k is within the horizon h.
-  pub grants-early : Neither → {i k h : ℕ} {t : Bool} → some i ≡ head s q p true → k ≡ slotKey board8 s i .key → h ≡ board8 .get s (Horizon, p) → leb k h ≡ t → cond t (early i) nobody ≡ queueGrant board8 s q waiting p
+  pub grants-early : Neither → {i k h : ℕ} {t : Bool} → some i ≡ head s q p true → pos k ≡ slotKey board8 s i .key → h ≡ board8 .get s (Horizon, p) → leb k h ≡ t → cond t (early i) nobody ≡ queueGrant board8 s q waiting p
   unfolding queueGrant tableGrant
   grants-early n e ek eh l = rw (← n .0, n .1, ← e, ← ek, ← eh, l)
 

@@ -2,6 +2,7 @@
 ghost use mathlib.Core.Path.{_≡_};
 ghost use Prim.Native.Nat.{ℕ, _<_};
 ghost use lib.ListN.{length};
+ghost use lib.IntN.{pos};
 ghost use Rattle.rules.specs.Areas.{Outcome};
 ghost use Rattle.rules.specs.Board.{board8};
 ghost use Rattle.rules.specs.Tick.{slotKey};
@@ -37,10 +38,10 @@ fn heading(state: &[u8], queues: &[u8], port: u8, early: bool) -> First
 
 // A slot's key.
 fn key(state: &[u8], s: SlotAddress) -> u8
-    ensures { λ r. ⌜ r ≡ slotKey board8 (now (state .entry)) (s .0) .key ⌝ }
+    ensures { λ r. ⌜ pos r ≡ slotKey board8 (now (state .entry)) (s .0) .key ⌝ }
 {
     let t = ClockReading(layout::get(state, Field::Clock));
-    (choose::rank(state, t, s) / 256 % 256) as u8
+    (choose::rank(state, t, s) / 65536 % 256) as u8
 }
 
 // Who has a port: the first on time, else best-effort, else the first early one within the horizon.

@@ -4,7 +4,7 @@ ghost use Prim.Native.Nat.{_+_, _*_, _≤_, _<_};
 ghost use lib.ListN.{length, getD, set, replicate};
 ghost use lib.Seq.{sets};
 ghost use Rattle.rules.specs.Areas.{has};
-ghost use Rattle.rules.specs.Board.{free, board8, table8};
+ghost use Rattle.rules.specs.Board.{Time, Deadline, free, board8, table8};
 ghost use Rattle.layout.specs.Fields.{fieldOf};
 ghost use Rattle.layout.specs.Numbers.{numberOf};
 ghost use Rattle.layout.specs.Slots.{empty};
@@ -187,6 +187,29 @@ pub fn get(state: &[u8], f: Field) -> u8
     ensures { λ r. ⌜ r ≡ board8 .get (now (state .entry)) (fieldOf f) ⌝ }
 {
     byte(state, place(f))
+}
+
+// A slot's logical arrival time and its deadline.
+pub struct SlotTimes {
+    pub time: ClockReading,
+    pub deadline: ClockReading,
+}
+
+// Both, which stand side by side, with one test of the length.
+pub fn times(state: &[u8], s: SlotAddress) -> SlotTimes
+    ensures { λ r. ⌜ (r .time .0 ≡ board8 .get (now (state .entry)) (Time, s .0)) × (r .deadline .0 ≡ board8 .get (now (state .entry)) (Deadline, s .0)) ⌝ }
+{
+    let at = place(Field::Time(s));
+    if at + 1 < state.len() {
+        return SlotTimes {
+            time: ClockReading(state[at]),
+            deadline: ClockReading(state[at + 1]),
+        };
+    }
+    SlotTimes {
+        time: ClockReading(get(state, Field::Time(s))),
+        deadline: ClockReading(get(state, Field::Deadline(s))),
+    }
 }
 
 // A field whose place the state has, without a test of its length.

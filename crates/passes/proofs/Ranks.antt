@@ -1,167 +1,225 @@
--- One minimum finds the winner: of two slots the lower rank is the one that the comparator puts first, or of equal keys the lower slot's, so that the least rank
--- is that of the least key; and it says whom the port is granted. Assumes nothing.
-use Prim.Native.Nat.{ℕ, suc, _+_, _*_, _%_, _^_, _<_, _≤_}
-use mathlib.Core.Path.{_≡_, refl, sym, ap, subst, _∙_}
-use mathlib.Core.Bool.{Bool, true, false, cond}
+-- One minimum finds the winner: of two slots the lower rank is that of the one that goes first, so that the least rank is that of the least key; and it says whom the port is granted.
+-- Assumes nothing.
+use Prim.Native.Nat.{ℕ, suc, _+_, _-_, _*_, _%_, _^_, _<_, _≤_}
+use mathlib.Core.Path.{_≡_, refl, sym, ap, _∙_}
+use mathlib.Core.Bool.{Bool, true, false, cond, not, _&&_, _||_}
 use mathlib.Core.List.{List}
 use mathlib.Core.Option.{Option, none, some}
 use native.Mathlib.Decide.{decLt, decLe}
+use native.Mathlib.Nat.{mod-lt}
 use native.Mathlib.Omega.{arith}
+use lib.Pow.{pow-pos}
 use lib.Dec.{leb, ltb}
 use lib.IntN.{pos}
 use lib.Signed.{leZ}
 use lib.ListN.{replicate, getD-replicate}
-use borrow.Author.Tests.{lt-ltb, le-ltb, lt-leb, le-leb}
-use Rattle.rules.specs.Clock.{minus, offset}
-use Rattle.rules.specs.Order.{better, least, by, then, Key, onTimeFirst, comparator}
-use Rattle.rules.specs.Areas.{bits, has, nobody, bestEffort, onTime, early}
+use borrow.Author.Tests.{lt-ltb, le-ltb, lt-leb, le-leb, ltb-true}
+use Rattle.rules.specs.Clock.{plus, minus, offset}
+use Rattle.rules.specs.Order.{better, least, by, then, Key, onTimeFirst, comparator, counted}
+use Rattle.rules.specs.Areas.{bits, half, has, Grant, nobody, bestEffort, onTime, early}
 use Rattle.rules.specs.Board.{Board, Horizon, Time, Deadline, Mask, clock}
-use Rattle.rules.specs.Tick.{granted, slotKey, candidate, grant}
+use Rattle.rules.specs.Tick.{isEarly, granted, slotKey, candidate, grant}
 use Rattle.rules.proofs.Booleans.{some-inj, none-some}
 use Rattle.rules.proofs.ClockLaws.{minus-lt}
 use Rattle.rules.proofs.IndexLaws.{least-in}
+use Rattle.rules.proofs.Integers.{ltb-iff}
 use Rattle.rules.proofs.Masks.{has-zero}
-use Rattle.rules.proofs.Offsets.{above}
+use Rattle.rules.proofs.Offsets.{above, raised-order}
 use Rattle.passes.specs.Ports.{EachPort, changed}
-use Rattle.passes.specs.Ranks.{lesser, rank, rankOf, bound, slotRank, best}
+use Rattle.passes.specs.Ranks.{lesser, turn, firstDigit, secondDigit, slotRank, earlyRanks, noRank, rankOf, best, bound}
 use Rattle.passes.proofs.MaskPorts.{has-low}
 
--- ---- ranks and the comparator
+-- ---- numbers of two digits
 
-module _ (turn : ℕ) where
-  -- A least key is below a turn, at a slot below n.
-  abbrev Small : ℕ → Option (ℕ × Key ℕ) → Type 0
-  Small n none = Unit
-  Small n (some (i, k)) = (i < n) × (k .key < turn)
-
-  -- Against a lower slot, the rank is less exactly if the comparator puts the key first.
-  rank-order : (i j : ℕ) (k l : Key ℕ) → j < i → i < 256 → k .key < turn → l .key < turn → ltb (rank turn i k) (rank turn j l) ≡ comparator ltb k l
-  unfolding comparator then by onTimeFirst
-  rank-order i j k l h m hk hl = go (k .early) (l .early) (decLt (k .key) (l .key))
+module _ (n x y a b : ℕ) (ha : a < n) (hb : b < n) where
+  -- The higher of them decides, and the lower among equals.
+  two-digits : ltb (x * n + a) (y * n + b) ≡ (ltb x y || (not (ltb y x) && ltb a b))
+  two-digits = go (decLt x y) (decLt y x)
     where
-      x : ℕ
-      x = k .key
+      less : (u v : ℕ) → u < v → u * n + n ≤ v * n
+      less u v h = let e : v * n ≡ (suc u + (v - suc u)) * n = ap (λ (m : ℕ). m * n) (omega arith) in omega arith
 
-      y : ℕ
-      y = l .key
+      go : Dec (x < y) → Dec (y < x) → ltb (x * n + a) (y * n + b) ≡ (ltb x y || (not (ltb y x) && ltb a b))
+      go (yes h) d = let l = less x y h in rw (lt-ltb x y h) (lt-ltb (x * n + a) (y * n + b) (omega arith))
+      go (no h) (yes d) = let l = less y x d in rw (le-ltb x y (omega arith), lt-ltb y x d) (le-ltb (x * n + a) (y * n + b) (omega arith))
+      go (no h) (no d) =
+          let e : x * n ≡ y * n = ap (λ (m : ℕ). m * n) (omega arith) in
+          rw (le-ltb x y (omega arith), le-ltb y x (omega arith)) (ltb-iff (x * n + a) (y * n + b) a b (λ l. omega arith) (λ l. omega arith))
 
-      go : (a b : Bool) → Dec (x < y) → ltb (cond a (turn * 256) 0 + x * 256 + i) (cond b (turn * 256) 0 + y * 256 + j) ≡ comparator ltb (record { early = a; key = x }) (record { early = b; key = y })
-      go false true d = lt-ltb (0 + x * 256 + i) (turn * 256 + y * 256 + j) (omega arith)
-      go true false d = le-ltb (turn * 256 + x * 256 + i) (0 + y * 256 + j) (omega arith)
-      go false false (yes q) = lt-ltb (0 + x * 256 + i) (0 + y * 256 + j) (omega arith) ∙ sym (lt-ltb x y q)
-      go false false (no q) = le-ltb (0 + x * 256 + i) (0 + y * 256 + j) (omega arith) ∙ sym (le-ltb x y (omega arith))
-      go true true (yes q) = lt-ltb (turn * 256 + x * 256 + i) (turn * 256 + y * 256 + j) (omega arith) ∙ sym (lt-ltb x y q)
-      go true true (no q) = le-ltb (turn * 256 + x * 256 + i) (turn * 256 + y * 256 + j) (omega arith) ∙ sym (le-ltb x y (omega arith))
+-- Where the second doesn't tell them apart the first decides alone.
+only-first : (a b : Bool) → (a || (not b && false)) ≡ a
+only-first true b = refl
+only-first false true = refl
+only-first false false = refl
 
-  -- So the lesser rank is that of the better key.
-  rank-better : (i : ℕ) (k : Key ℕ) → i < 256 → k .key < turn → (v : Option (ℕ × Key ℕ)) → Small i v → lesser (rank turn i k) (rankOf turn v) ≡ rankOf turn (better (comparator ltb) v i (some k))
-  unfolding better rankOf
-  rank-better i k m hk none h = rw (lt-ltb (rank turn i k) (2 * turn * 256) (bound (k .early)))
-    where
-      bound : (a : Bool) → cond a (turn * 256) 0 + k .key * 256 + i < 2 * turn * 256
-      bound true = omega arith
-      bound false = omega arith
-  rank-better i k m hk (some (j, l)) h = rw (rank-order i j k l (h .0) m hk (h .1)) (go (comparator ltb k l))
-    where
-      go : (t : Bool) → cond t (rank turn i k) (rank turn j l) ≡ rankOf turn (cond t (some (i, k)) (some (j, l)))
-      go true = refl
-      go false = refl
-
-  -- An on-time rank is that of a packet on time, and the highest rank is no packet's.
-  granted-on-time : (v : Option (ℕ × Key ℕ)) → Small 256 v → (b : Bool) (h : ℕ) → rankOf turn v < turn * 256 → onTime (rankOf turn v % 256) ≡ granted v b h
-  unfolding rankOf granted
-  granted-on-time none s b h l = absurd (omega arith)
-  granted-on-time (some (i, k)) s b h l = go (k .early) l
-    where
-      go : (a : Bool) → cond a (turn * 256) 0 + k .key * 256 + i < turn * 256 → onTime ((cond a (turn * 256) 0 + k .key * 256 + i) % 256) ≡ cond a (cond b bestEffort (cond (leb (k .key) h) (early i) nobody)) (onTime i)
-      go true l = absurd (omega arith)
-      go false l = ap onTime (omega arith)
-
-  granted-none : (v : Option (ℕ × Key ℕ)) → Small 256 v → (b : Bool) (h : ℕ) → 2 * turn * 256 ≤ rankOf turn v → cond b bestEffort nobody ≡ granted v b h
-  unfolding rankOf granted
-  granted-none none s b h l = refl
-  granted-none (some (i, k)) s b h l = absurd (go (k .early) l)
-    where
-      go : (a : Bool) → 2 * turn * 256 ≤ cond a (turn * 256) 0 + k .key * 256 + i → ⊥
-      go true l = omega arith
-      go false l = omega arith
-
-  -- An early rank is sent exactly if it is below the bound: best-effort doesn't wait, and the key is at most the horizon.
-  granted-early : (v : Option (ℕ × Key ℕ)) → Small 256 v → (b : Bool) (h : ℕ) → turn * 256 ≤ rankOf turn v → rankOf turn v < 2 * turn * 256
-      → cond (ltb (rankOf turn v) (bound turn b h)) (early (rankOf turn v % 256)) (cond b bestEffort nobody) ≡ granted v b h
-  unfolding rankOf granted
-  granted-early none s b h l m = absurd (omega arith)
-  granted-early (some (i, k)) s b h l m = go (k .early) l
-    where
-      x : ℕ
-      x = k .key
-
-      far : (b : Bool) → Dec (x ≤ h) → (r : ℕ) → r ≡ turn * 256 + x * 256 + i → cond (ltb r (bound turn b h)) (early (r % 256)) (cond b bestEffort nobody) ≡ cond b bestEffort (cond (leb x h) (early i) nobody)
-      far true d r e = rw (le-ltb r (turn * 256) (omega arith))
-      far false (yes m) r e = rw (lt-ltb r (turn * 256 + (h + 1) * 256) (omega arith), le-leb x h m) (ap early (omega arith))
-      far false (no m) r e = rw (le-ltb r (turn * 256 + (h + 1) * 256) (omega arith), lt-leb x h (omega arith))
-
-      go : (a : Bool) → turn * 256 ≤ cond a (turn * 256) 0 + x * 256 + i
-          → cond (ltb (cond a (turn * 256) 0 + x * 256 + i) (bound turn b h)) (early ((cond a (turn * 256) 0 + x * 256 + i) % 256)) (cond b bestEffort nobody) ≡ cond a (cond b bestEffort (cond (leb x h) (early i) nobody)) (onTime i)
-      go false l = absurd (omega arith)
-      go true l = far b (decLe x h) (turn * 256 + x * 256 + i) refl
+-- Against a number without a lower digit the higher decides alone.
+high-digit : (n x m a : ℕ) → a < n → ltb (x * n + a) (m * n) ≡ ltb x m
+high-digit n x m a h =
+    let z : m * n ≡ m * n + 0 = omega arith in
+    ap (ltb (x * n + a)) z ∙ two-digits n x m a 0 h (omega arith) ∙ rw (le-ltb a 0 (omega arith)) (only-first (ltb x m) (ltb m x))
 
 module _ (B : Board) where
   open Board B using (clockBytes as c, get)
 
+  -- ---- ranks and the comparator
+
+  module _ (s : List ℕ) where
+    -- Both keys are below a turn.
+    pub first-lt : (i : ℕ) → firstDigit B s i < turn B
+    first-lt i = minus-lt (bits c) _ _
+
+    pub second-lt : (i : ℕ) → secondDigit B s i < turn B
+    unfolding plus
+    second-lt i = go (isEarly B s i)
+      where
+        go : (e : Bool) → cond e (minus (bits c) (get s (Deadline, i)) (get s clock)) (plus (bits c) (minus (bits c) (get s (Time, i)) (get s clock)) (half c)) < turn B
+        go true = minus-lt (bits c) _ _
+        go false = mod-lt _ (pow-pos (bits c))
+
+    -- A rank without its slot.
+    abbrev high : ℕ → ℕ
+    high i = (counted (isEarly B s i) * turn B + firstDigit B s i) * turn B + secondDigit B s i
+
+    -- Slots go by these as their keys do.
+    high-order : (i j : ℕ) → ltb (high i) (high j) ≡ comparator (slotKey B s i) (slotKey B s j)
+    unfolding comparator then by onTimeFirst slotKey counted
+    high-order i j =
+        let x = counted (isEarly B s i) in
+        let y = counted (isEarly B s j) in
+        rw (
+          two-digits (turn B) (x * turn B + firstDigit B s i) (y * turn B + firstDigit B s j) (secondDigit B s i) (secondDigit B s j) (second-lt i) (second-lt j),
+          two-digits (turn B) x y (firstDigit B s i) (firstDigit B s j) (first-lt i) (first-lt j),
+          two-digits (turn B) y x (firstDigit B s j) (firstDigit B s i) (first-lt j) (first-lt i),
+        ) (go (isEarly B s i) (isEarly B s j))
+      where
+        t : ℕ
+        t = get s clock
+
+        first : Bool → ℕ → ℕ
+        first e i = minus (bits c) (cond e (get s (Time, i)) (get s (Deadline, i))) t
+
+        second : Bool → ℕ → ℕ
+        second e i = cond e (minus (bits c) (get s (Deadline, i)) t) (plus (bits c) (minus (bits c) (get s (Time, i)) t) (half c))
+
+        key : Bool → ℕ → Key
+        key e i = record { early = e; key = pos (first e i); second = cond e (pos (minus (bits c) (get s (Deadline, i)) t)) (offset (bits c) (get s (Time, i)) t) }
+
+        go : (e d : Bool)
+            → (ltb (counted e) (counted d) || (not (ltb (counted d) (counted e)) && ltb (first e i) (first d j))
+            || (not (ltb (counted d) (counted e) || (not (ltb (counted e) (counted d)) && ltb (first d j) (first e i))) && ltb (second e i) (second d j)))
+            ≡ comparator (key e i) (key d j)
+        go true true = refl
+        go true false = refl
+        go false true = refl
+        go false false = rw (raised-order c (get s (Time, i)) (get s (Time, j)) t)
+
+    -- So the lower rank is that of the slot which goes first: by the comparator, and where it doesn't tell them apart the lower slot.
+    pub rank-order : (i j : ℕ) → i < 256 → j < 256 → ltb (slotRank B s i) (slotRank B s j) ≡ then (by (slotKey B s) comparator) ltb i j
+    unfolding then by
+    rank-order i j hi hj = rw (two-digits 256 (high i) (high j) i j hi hj, high-order i j, high-order j i)
+
+    -- Against a lower slot the comparator decides alone.
+    rank-higher : (i j : ℕ) → i < 256 → j < i → ltb (slotRank B s i) (slotRank B s j) ≡ comparator (slotKey B s i) (slotKey B s j)
+    unfolding then by
+    rank-higher i j hi h = rank-order i j hi (omega arith) ∙ rw (le-ltb i j (omega arith)) (only-first (comparator (slotKey B s i) (slotKey B s j)) (comparator (slotKey B s j) (slotKey B s i)))
+
+  -- A slot's rank, by its time u, its deadline d and whether the offset of the time is at most 0, as the code finds it.
+  module _ (s : List ℕ) (i t u d : ℕ) (et : t ≡ get s clock) (eu : u ≡ get s (Time, i)) (ed : d ≡ get s (Deadline, i)) (k q : ℕ) where
+    pub rank-on-time : leZ (offset (bits c) u t) (pos 0) ≡ true → k ≡ minus (bits c) d t → q ≡ plus (bits c) (minus (bits c) u t) (half c) → (k * turn B + q) * 256 + i ≡ slotRank B s i
+    unfolding counted
+    rank-on-time o ek eq = rw (above (pos 0) (offset (bits c) (get s (Time, i)) (get s clock)), ← et, ← eu, o, ← ed, ← ek, ← eq) (omega arith)
+
+    pub rank-early : leZ (offset (bits c) u t) (pos 0) ≡ false → k ≡ minus (bits c) u t → q ≡ minus (bits c) d t → earlyRanks B + ((k * turn B + q) * 256 + i) ≡ slotRank B s i
+    unfolding counted
+    rank-early o ek eq = rw (above (pos 0) (offset (bits c) (get s (Time, i)) (get s clock)), ← et, ← eu, o, ← ed, ← ek, ← eq) (omega arith)
+
+  -- ---- what the tests of a rank tell of its slot
+
+  module _ (s : List ℕ) (i : ℕ) (hi : i < 256) where
+    -- Below a multiple of a turn and 256 is a matter of the two higher digits.
+    rank-below : (m : ℕ) → ltb (slotRank B s i) (m * turn B * 256) ≡ ltb (counted (isEarly B s i) * turn B + firstDigit B s i) m
+    rank-below m = high-digit 256 (high s i) (m * turn B) i hi ∙ high-digit (turn B) _ m (secondDigit B s i) (second-lt s i)
+
+    -- So an early rank is from the early ones on, any other below them, and each below that of none.
+    rank-sort : ltb (slotRank B s i) (earlyRanks B) ≡ not (isEarly B s i)
+    unfolding counted
+    rank-sort = rank-below (turn B) ∙ go (isEarly B s i) (firstDigit B s i) (first-lt s i)
+      where
+        go : (e : Bool) (x : ℕ) → x < turn B → ltb (counted e * turn B + x) (turn B) ≡ not e
+        go true x h = le-ltb (1 * turn B + x) (turn B) (omega arith)
+        go false x h = lt-ltb (0 * turn B + x) (turn B) (omega arith)
+
+    rank-lt : slotRank B s i < noRank B
+    unfolding counted
+    rank-lt = ltb-true (slotRank B s i) (noRank B) (rank-below (2 * turn B) ∙ go (isEarly B s i) (firstDigit B s i) (first-lt s i))
+      where
+        go : (e : Bool) (x : ℕ) → x < turn B → ltb (counted e * turn B + x) (2 * turn B) ≡ true
+        go true x h = lt-ltb (1 * turn B + x) (2 * turn B) (omega arith)
+        go false x h = lt-ltb (0 * turn B + x) (2 * turn B) (omega arith)
+
+    -- It has the slot in its lowest digit.
+    rank-slot : slotRank B s i % 256 ≡ i
+    rank-slot = omega arith
+
+    -- Where it is early it is below the bound exactly if best-effort doesn't wait and the key is at most the horizon.
+    rank-bound : isEarly B s i ≡ true → (b : Bool) (h : ℕ) → ltb (slotRank B s i) (bound B b h) ≡ (not b && leb (firstDigit B s i) h)
+    unfolding counted
+    rank-bound e true h = rank-sort ∙ rw e
+    rank-bound e false h = let m : bound B false h ≡ (turn B + (h + 1)) * turn B * 256 = omega arith in ap (ltb (slotRank B s i)) m ∙ rank-below (turn B + (h + 1)) ∙ rw e (go _ (decLe _ h))
+      where
+        go : (x : ℕ) → Dec (x ≤ h) → ltb (1 * turn B + x) (turn B + (h + 1)) ≡ leb x h
+        go x (yes l) = lt-ltb (1 * turn B + x) (turn B + (h + 1)) (omega arith) ∙ sym (le-leb x h l)
+        go x (no l) = le-ltb (1 * turn B + x) (turn B + (h + 1)) (omega arith) ∙ sym (lt-leb x h (omega arith))
+
   -- ---- the least rank of the slots below i
 
-  abbrev turn : ℕ
-  turn = 2 ^ bits c
+  -- The least, if there is one, is a slot below n and its key.
+  abbrev Of : List ℕ → ℕ → Option (ℕ × Key) → Type 0
+  Of s n none = Unit
+  Of s n (some (i, k)) = (i < n) × (k ≡ slotKey B s i)
 
-  -- A slot's key is a difference of clock readings.
-  key-lt : (s : List ℕ) (i : ℕ) → slotKey B s i .key < turn
-  unfolding slotKey
-  key-lt s i = minus-lt (bits c) _ _
-
-  -- A slot's rank, by its time u and whether the offset of that is at most 0, as the code finds it.
-  module _ (s : List ℕ) (i t u k : ℕ) (et : t ≡ get s clock) (eu : u ≡ get s (Time, i)) where
-    pub rank-on-time : leZ (offset (bits c) u t) (pos 0) ≡ true → (d : ℕ) → d ≡ get s (Deadline, i) → k ≡ minus (bits c) d t → k * 256 + i ≡ slotRank B s i
-    unfolding slotKey
-    rank-on-time o d ed ek = rw (above (pos 0) (offset (bits c) (get s (Time, i)) (get s clock)), ← et, ← eu, o, ← ed, ← ek) (omega arith)
-
-    pub rank-early : leZ (offset (bits c) u t) (pos 0) ≡ false → k ≡ minus (bits c) u t → turn * 256 + k * 256 + i ≡ slotRank B s i
-    unfolding slotKey
-    rank-early o ek = rw (above (pos 0) (offset (bits c) (get s (Time, i)) (get s clock)), ← et, ← eu, o, ← ek)
-
-  -- A least key is one of the slots'.
-  least-small : (s : List ℕ) (p n : ℕ) → Small turn n (least (comparator ltb) (candidate B s p) n)
+  least-of : (s : List ℕ) (p n : ℕ) → Of s n (least comparator (candidate B s p) n)
   unfolding candidate
-  least-small s p n = go (least (comparator ltb) (candidate B s p) n) refl
+  least-of s p n = go (least comparator (candidate B s p) n) refl
     where
-      keyed : (t : Bool) (i : ℕ) (k : Key ℕ) → cond t (some (slotKey B s i)) none ≡ some k → k .key < turn
-      keyed true i k e = subst (λ (k : Key ℕ). k .key < turn) (some-inj e) (key-lt s i)
+      keyed : (t : Bool) (i : ℕ) (k : Key) → cond t (some (slotKey B s i)) none ≡ some k → k ≡ slotKey B s i
+      keyed true i k e = sym (some-inj e)
       keyed false i k e = none-some e
 
-      go : (v : Option (ℕ × Key ℕ)) → least (comparator ltb) (candidate B s p) n ≡ v → Small turn n v
+      go : (v : Option (ℕ × Key)) → least comparator (candidate B s p) n ≡ v → Of s n v
       go none e = tt
-      go (some (i, k)) e = let h = least-in (comparator ltb) (candidate B s p) n i k e in (h .0, keyed (has (get s (Mask, i)) p) i k (h .1))
+      go (some (i, k)) e = let h = least-in comparator (candidate B s p) n i k e in (h .0, keyed (has (get s (Mask, i)) p) i k (h .1))
+
+  -- The lesser rank is that of the better key.
+  rank-better : (s : List ℕ) (i : ℕ) → i < 256 → (v : Option (ℕ × Key)) → Of s i v → lesser (slotRank B s i) (rankOf B s v) ≡ rankOf B s (better comparator v i (some (slotKey B s i)))
+  unfolding better rankOf
+  rank-better s i h none o = rw (lt-ltb (slotRank B s i) (noRank B) (rank-lt s i h))
+  rank-better s i h (some (j, l)) (hj, q) = rw (rank-higher s i j h hj, q) (go (comparator (slotKey B s i) (slotKey B s j)))
+    where
+      go : (t : Bool) → cond t (slotRank B s i) (slotRank B s j) ≡ rankOf B s (cond t (some (i, slotKey B s i)) (some (j, slotKey B s j)))
+      go true = refl
+      go false = refl
 
   -- A slot that the port doesn't look at leaves it.
   best-without : (s : List ℕ) (i p : ℕ) → has (get s (Mask, i)) p ≡ false → best B s i p ≡ best B s (suc i) p
   unfolding best least candidate better
-  best-without s i p z = rw z (go (least (comparator ltb) (candidate B s p) i))
+  best-without s i p z = rw z (go (least comparator (candidate B s p) i))
     where
-      go : (v : Option (ℕ × Key ℕ)) → rankOf turn v ≡ rankOf turn (better (comparator ltb) v i none)
+      go : (v : Option (ℕ × Key)) → rankOf B s v ≡ rankOf B s (better comparator v i none)
       go none = refl
       go (some w) = refl
 
   -- Any other makes it the lesser.
   best-with : (s : List ℕ) (i p : ℕ) → i < 256 → has (get s (Mask, i)) p ≡ true → lesser (slotRank B s i) (best B s i p) ≡ best B s (suc i) p
   unfolding best least candidate
-  best-with s i p h z = rw z (rank-better turn i (slotKey B s i) h (key-lt s i) (least (comparator ltb) (candidate B s p) i) (least-small s p i))
+  best-with s i p h z = rw z (rank-better s i h (least comparator (candidate B s p) i) (least-of s p i))
 
   -- ---- the least ranks of the five ports
 
   -- No slot looked at.
-  pub bests-start : (s : List ℕ) → EachPort (best B s 0) (replicate 5 (2 * turn * 256))
+  pub bests-start : (s : List ℕ) → EachPort (best B s 0) (replicate 5 (noRank B))
   unfolding best least rankOf
-  bests-start s = record { five = refl; each = λ p h. getD-replicate 5 p (2 * turn * 256) 0 h }
+  bests-start s = record { five = refl; each = λ p h. getD-replicate 5 p (noRank B) 0 h }
 
   -- Slot i looked at, of whose mask m the code tests the five low bits, and offered to the ports there.
   module _ (s : List ℕ) (i : ℕ) (h : i < 256) (m : ℕ) (em : m ≡ get s (Mask, i)) (l : List ℕ) (E : EachPort (best B s i) l) where
@@ -184,25 +242,47 @@ module _ (B : Board) where
 
   -- ---- whom the least rank grants the port, by the tests of the code
 
+  -- Where best-effort waits if b, and the horizon is h.
+  byRank : Bool → ℕ → ℕ → Grant ℕ
+  byRank b h r = cond (ltb r (earlyRanks B)) (onTime (r % 256)) (cond (ltb r (noRank B) && ltb r (bound B b h)) (early (r % 256)) (cond b bestEffort nobody))
+
+  -- By cases of the sort: the tests tell it, and whether an early slot is sent.
+  granted-by-rank : (s : List ℕ) (v : Option (ℕ × Key)) → Of s 256 v → (b : Bool) (h : ℕ) → byRank b h (rankOf B s v) ≡ granted v b h
+  unfolding byRank rankOf granted slotKey
+  granted-by-rank s none o b h = rw (le-ltb (noRank B) (earlyRanks B) (omega arith), le-ltb (noRank B) (noRank B) (omega arith))
+  granted-by-rank s (some (i, k)) (hi, q) b h =
+      rw (q, rank-sort s i hi, lt-ltb (slotRank B s i) (noRank B) (rank-lt s i hi), rank-slot s i hi) (go (isEarly B s i) refl (ltb (slotRank B s i) (bound B b h)) (λ e. rank-bound s i hi e b h))
+    where
+      go : (e : Bool) → isEarly B s i ≡ e → (t : Bool) → (isEarly B s i ≡ true → t ≡ (not b && leb (firstDigit B s i) h))
+          → cond (not e) (onTime i) (cond t (early i) (cond b bestEffort nobody)) ≡ cond e (cond b bestEffort (cond (leb (firstDigit B s i) h) (early i) nobody)) (onTime i)
+      go false e t f = refl
+      go true e t f = rw (f e) (sent b (leb (firstDigit B s i) h))
+        where
+          sent : (b a : Bool) → cond (not b && a) (early i) (cond b bestEffort nobody) ≡ cond b bestEffort (cond a (early i) nobody)
+          sent true a = refl
+          sent false true = refl
+          sent false false = refl
+
   module _ (s : List ℕ) (waiting p r : ℕ) (er : r ≡ best B s 256 p) where
-    abbrev winner : Option (ℕ × Key ℕ)
-    winner = least (comparator ltb) (candidate B s p) 256
-
-    pub grants-on-time : r < turn * 256 → onTime (r % 256) ≡ grant B s waiting p
+    -- The horizon is h, and best-effort waits if b.
+    by-rank : (b : Bool) → b ≡ has waiting p → (h : ℕ) → h ≡ get s (Horizon, p) → byRank b h r ≡ grant B s waiting p
     unfolding grant best
-    grants-on-time l = rw er (granted-on-time turn winner (least-small s p 256) (has waiting p) (get s (Horizon, p)) (rw er at l))
+    by-rank b eb h eh = rw (er, eb, eh) (granted-by-rank s (least comparator (candidate B s p) 256) (least-of s p 256) (has waiting p) (get s (Horizon, p)))
 
-    -- b where best-effort waits.
+    pub grants-on-time : r < earlyRanks B → onTime (r % 256) ≡ grant B s waiting p
+    unfolding byRank
+    grants-on-time l = rw (lt-ltb r (earlyRanks B) l) at (by-rank _ refl _ refl)
+
     module _ (b : Bool) (eb : b ≡ has waiting p) where
-      pub grants-none : 2 * turn * 256 ≤ r → cond b bestEffort nobody ≡ grant B s waiting p
-      unfolding grant best
-      grants-none l = rw eb (granted-none turn winner (least-small s p 256) (has waiting p) (get s (Horizon, p)) (rw er at l))
+      pub grants-none : noRank B ≤ r → cond b bestEffort nobody ≡ grant B s waiting p
+      unfolding byRank
+      grants-none l = rw (le-ltb r (earlyRanks B) (omega arith), le-ltb r (noRank B) l) at (by-rank b eb _ refl)
 
-      -- The horizon is h, and m the bound of the early ranks that the port sends.
-      module _ (h : ℕ) (eh : h ≡ get s (Horizon, p)) (m : ℕ) (em : m ≡ bound turn b h) (low : turn * 256 ≤ r) (high : r < 2 * turn * 256) where
+      -- m is the bound of the early ranks that the port sends.
+      module _ (h : ℕ) (eh : h ≡ get s (Horizon, p)) (m : ℕ) (em : m ≡ bound B b h) (low : earlyRanks B ≤ r) (high : r < noRank B) where
         bounded : cond (ltb r m) (early (r % 256)) (cond b bestEffort nobody) ≡ grant B s waiting p
-        unfolding grant best
-        bounded = rw (em, eb, er, ← eh) (granted-early turn winner (least-small s p 256) (has waiting p) h (rw er at low) (rw er at high))
+        unfolding byRank
+        bounded = rw (le-ltb r (earlyRanks B) low, lt-ltb r (noRank B) high, ← em) at (by-rank b eb h eh)
 
         pub grants-early : r < m → early (r % 256) ≡ grant B s waiting p
         grants-early l = rw (lt-ltb r m l) at bounded

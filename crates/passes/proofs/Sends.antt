@@ -11,7 +11,8 @@ use native.Mathlib.Omega.{arith}
 use lib.Pow.{pow-pos}
 use lib.ListN.{length, length-set, getD, set, replicate}
 use lib.Seq.{getD-set-same, getD-set-other, set-out}
-use lib.Dec.{leb, ltb}
+use lib.IntN.{pos}
+use lib.Signed.{leZ}
 use Rattle.rules.specs.Areas.{has, without, perPort, Grant, nobody, bestEffort, onTime, early}
 use Rattle.rules.specs.Board.{Board, Horizon, Time, Deadline, Mask, clock}
 use Rattle.rules.specs.Order.{least, better, Order, Key, comparator}
@@ -152,9 +153,9 @@ module _ (B : Board) (L : Laws B) where
   -- The least of the keys is one of them.
   pub winner : (s : List ℕ) (waiting p : ℕ) → Winner B s p (grant B s waiting p)
   unfolding grant granted candidate
-  winner s waiting p = go (least (comparator ltb) (candidate B s p) 256) refl
+  winner s waiting p = go (least comparator (candidate B s p) 256) refl
     where
-      keyed : (t : Bool) (i : ℕ) (k : Key ℕ) → cond t (some (slotKey B s i)) none ≡ some k → t ≡ true
+      keyed : (t : Bool) (i : ℕ) (k : Key) → cond t (some (slotKey B s i)) none ≡ some k → t ≡ true
       keyed true i k e = refl
       keyed false i k e = none-some e
 
@@ -168,11 +169,11 @@ module _ (B : Board) (L : Laws B) where
       nobody-else true = tt
       nobody-else false = tt
 
-      go : (v : Option (ℕ × Key ℕ)) → least (comparator ltb) (candidate B s p) 256 ≡ v → Winner B s p (granted v (has waiting p) (get s (Horizon, p)))
+      go : (v : Option (ℕ × Key)) → least comparator (candidate B s p) 256 ≡ v → Winner B s p (granted v (has waiting p) (get s (Horizon, p)))
       go none e = nobody-else (has waiting p)
       go (some (i, k)) e =
-          let h = least-in (comparator ltb) (candidate B s p) 256 i k e in
-          pick i (h .0, keyed (has (get s (Mask, i)) p) i k (h .1)) (k .early) (has waiting p) (leb (k .key) (get s (Horizon, p)))
+          let h = least-in comparator (candidate B s p) 256 i k e in
+          pick i (h .0, keyed (has (get s (Mask, i)) p) i k (h .1)) (k .early) (has waiting p) (leZ (k .key) (pos (get s (Horizon, p))))
 
   -- Equal keys have one least.
   least-cong : {A : Type 0} (less : Order A) (f g : ℕ → Option A) (n : ℕ) → ((i : ℕ) → i < n → f i ≡ g i) → least less f n ≡ least less g n
@@ -185,7 +186,7 @@ module _ (B : Board) (L : Laws B) where
     grant-masked : (f : ℕ → ℕ) (q : ℕ) → q < 5 → ((j : ℕ) → has (f j) q ≡ has (get s (Mask, j)) q) → grant B (masked B L f s 256) waiting q ≡ grant B s waiting q
     unfolding grant candidate slotKey
     grant-masked f q hq h =
-        rw (least-cong (comparator ltb) (candidate B (masked B L f s 256) q) (candidate B s q) 256 same, get-masked B L f s sized (Horizon, q) hq refl 256 (omega arith))
+        rw (least-cong comparator (candidate B (masked B L f s 256) q) (candidate B s q) 256 same, get-masked B L f s sized (Horizon, q) hq refl 256 (omega arith))
       where
         same : (i : ℕ) → i < 256 → candidate B (masked B L f s 256) q i ≡ candidate B s q i
         same i l =

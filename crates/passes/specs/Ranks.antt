@@ -1,38 +1,53 @@
--- A slot's key and address as one number, the least of them for a port, and whom it grants the port. Assumes nothing.
+-- A slot's keys and address as one number, the least of them for a port, and whom it grants the port. Assumes nothing.
 use Prim.Native.Nat.{ℕ, _+_, _*_, _^_}
 use mathlib.Core.Bool.{Bool, cond}
 use mathlib.Core.List.{List}
 use mathlib.Core.Option.{Option, none, some}
 use lib.Dec.{ltb}
-use Rattle.rules.specs.Order.{least, Key, comparator}
-use Rattle.rules.specs.Areas.{bits, early}
-use Rattle.rules.specs.Board.{Board}
-use Rattle.rules.specs.Tick.{slotKey, candidate}
+use Rattle.rules.specs.Clock.{plus, minus}
+use Rattle.rules.specs.Order.{Key, comparator, least, counted}
+use Rattle.rules.specs.Areas.{bits, half}
+use Rattle.rules.specs.Board.{Board, Time, Deadline, clock}
+use Rattle.rules.specs.Tick.{isEarly, candidate}
 
 -- The lesser of two.
 abbrev pub lesser : ℕ → ℕ → ℕ
 lesser r b = cond (ltb r b) r b
 
--- Keys are below a turn of the clock.
-module _ (turn : ℕ) where
-  -- The rank of slot i with the key k: first whether it is early, then the key, then the slot.
-  abbrev pub rank : ℕ → Key ℕ → ℕ
-  rank i k = cond (k .early) (turn * 256) 0 + k .key * 256 + i
-
-  -- That of the least, and above all ranks where there is none.
-  unfoldable pub rankOf : Option (ℕ × Key ℕ) → ℕ
-  rankOf (some (i, k)) = rank i k
-  rankOf none = 2 * turn * 256
-
-  -- A port sends the early ranks below this: b where best-effort waits, h the horizon.
-  abbrev pub bound : Bool → ℕ → ℕ
-  bound b h = cond b (turn * 256) (turn * 256 + (h + 1) * 256)
-
 module _ (B : Board) where
-  -- The rank of slot i, for each port in its mask.
+  open Board B using (clockBytes as c, get)
+
+  -- A turn of the clock, which both keys are below.
+  abbrev pub turn : ℕ
+  turn = 2 ^ bits c
+
+  -- The key of slot i, and its second key from 0 on: an offset counts from half a turn before the clock.
+  abbrev pub firstDigit : List ℕ → ℕ → ℕ
+  firstDigit s i = minus (bits c) (cond (isEarly B s i) (get s (Time, i)) (get s (Deadline, i))) (get s clock)
+
+  abbrev pub secondDigit : List ℕ → ℕ → ℕ
+  secondDigit s i = cond (isEarly B s i) (minus (bits c) (get s (Deadline, i)) (get s clock)) (plus (bits c) (minus (bits c) (get s (Time, i)) (get s clock)) (half c))
+
+  -- The rank of slot i, for each port in its mask: first whether it is early, then the key, then the second key, then the slot, as the digits of a number.
   abbrev pub slotRank : List ℕ → ℕ → ℕ
-  slotRank s i = rank (2 ^ bits (B .clockBytes)) i (slotKey B s i)
+  slotRank s i = ((counted (isEarly B s i) * turn + firstDigit s i) * turn + secondDigit s i) * 256 + i
+
+  -- Where the early ranks begin, and what is above all ranks.
+  abbrev pub earlyRanks : ℕ
+  earlyRanks = turn * turn * 256
+
+  abbrev pub noRank : ℕ
+  noRank = 2 * turn * turn * 256
+
+  -- The rank of the least slot, if there is one.
+  unfoldable pub rankOf : List ℕ → Option (ℕ × Key) → ℕ
+  rankOf s (some (i, k)) = slotRank s i
+  rankOf s none = noRank
 
   -- The least rank for port p of the slots below i.
   unfoldable pub best : List ℕ → ℕ → ℕ → ℕ
-  best s i p = rankOf (2 ^ bits (B .clockBytes)) (least (comparator ltb) (candidate B s p) i)
+  best s i p = rankOf s (least comparator (candidate B s p) i)
+
+  -- A port sends the early ranks below this: b where best-effort waits, h the horizon.
+  abbrev pub bound : Bool → ℕ → ℕ
+  bound b h = cond b earlyRanks (earlyRanks + (h + 1) * (turn * 256))

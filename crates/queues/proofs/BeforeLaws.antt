@@ -1,20 +1,19 @@
 -- The order of the queues: strict, total on different slots, that of the slots' ranks, on-time slots first; and it depends on the keys alone. By cases of what the comparator sees. Assumes nothing.
-use Prim.Native.Nat.{ℕ, _+_, _*_, _^_, _<_}
+use Prim.Native.Nat.{ℕ, _<_}
 use mathlib.Core.Path.{_≡_, refl, sym, ap₂, _∙_}
-use mathlib.Core.Bool.{Bool, true, false, cond, not, _&&_, _||_, true≢false}
+use mathlib.Core.Bool.{Bool, true, false, not, _&&_, _||_, true≢false}
 use mathlib.Core.Logic.{_⊎_, inl, inr}
 use mathlib.Core.List.{List}
 use native.Mathlib.Decide.{decLt}
 use native.Mathlib.Omega.{arith}
 use lib.Dec.{ltb}
-use borrow.Author.Tests.{lt-ltb, le-ltb, ltb-true, ltb-false}
+use borrow.Author.Tests.{lt-ltb, ltb-true, ltb-false}
 use Rattle.rules.specs.Order.{Key, by, then, onTimeFirst, comparator}
-use Rattle.rules.specs.Areas.{bits}
 use Rattle.rules.specs.Board.{Board}
 use Rattle.rules.specs.Tick.{isEarly, slotKey}
 use Rattle.rules.proofs.OrderLaws.{Strict, strict-by, strict-then, strict-comparator}
-use Rattle.rules.proofs.ClockLaws.{minus-lt}
-use Rattle.passes.specs.Ranks.{rank, slotRank}
+use Rattle.passes.specs.Ranks.{slotRank}
+use Rattle.passes.proofs.Ranks.{rank-order}
 use Rattle.queues.specs.Table1.{before}
 use Rattle.queues.proofs.ListLaws.{Total}
 
@@ -32,44 +31,16 @@ strict-numbers = record {
     go x y z h (yes l) = inl (lt-ltb x y l)
     go x y z h (no l) = inr (lt-ltb y z (omega arith))
 
--- So is that of keys.
-pub strict-keys : Strict (comparator ltb)
-strict-keys = strict-comparator strict-numbers
-
 -- ---- keys
 
 -- Whether a slot with the key k goes before one with the key l; t if it is the lower.
-abbrev pub goes : Key ℕ → Key ℕ → Bool → Bool
-goes k l t = comparator ltb k l || (not (comparator ltb l k) && t)
+abbrev pub goes : Key → Key → Bool → Bool
+goes k l t = comparator k l || (not (comparator l k) && t)
 
 -- A slot on time goes before an early one.
-goes-early : (k l : Key ℕ) (t : Bool) → k .early ≡ false → l .early ≡ true → goes k l t ≡ true
+goes-early : (k l : Key) (t : Bool) → k .early ≡ false → l .early ≡ true → goes k l t ≡ true
 unfolding comparator then by onTimeFirst
 goes-early k l t p q = rw (p, q)
-
--- With keys below a turn, and slots below 256: the lower rank is that of the slot which goes first.
-goes-rank : (turn i j : ℕ) (k l : Key ℕ) → i < 256 → j < 256 → k .key < turn → l .key < turn → goes k l (ltb i j) ≡ ltb (rank turn i k) (rank turn j l)
-unfolding comparator then by onTimeFirst
-goes-rank turn i j k l hi hj hk hl = go (k .early) (l .early)
-  where
-    x : ℕ
-    x = k .key
-
-    y : ℕ
-    y = l .key
-
-    -- Of one sort, whose ranks start at z.
-    one-sort : (z : ℕ) → Dec (x < y) → Dec (y < x) → Dec (i < j) → (ltb x y || (not (ltb y x) && ltb i j)) ≡ ltb (z + x * 256 + i) (z + y * 256 + j)
-    one-sort z (yes a) b d = rw (lt-ltb x y a) (sym (lt-ltb (z + x * 256 + i) (z + y * 256 + j) (omega arith)))
-    one-sort z (no a) (yes b) d = rw (le-ltb x y (omega arith), lt-ltb y x b) (sym (le-ltb (z + x * 256 + i) (z + y * 256 + j) (omega arith)))
-    one-sort z (no a) (no b) (yes d) = rw (le-ltb x y (omega arith), le-ltb y x (omega arith), lt-ltb i j d) (sym (lt-ltb (z + x * 256 + i) (z + y * 256 + j) (omega arith)))
-    one-sort z (no a) (no b) (no d) = rw (le-ltb x y (omega arith), le-ltb y x (omega arith), le-ltb i j (omega arith)) (sym (le-ltb (z + x * 256 + i) (z + y * 256 + j) (omega arith)))
-
-    go : (a b : Bool) → goes (record { early = a; key = x }) (record { early = b; key = y }) (ltb i j) ≡ ltb (cond a (turn * 256) 0 + x * 256 + i) (cond b (turn * 256) 0 + y * 256 + j)
-    go false true = sym (lt-ltb (0 + x * 256 + i) (turn * 256 + y * 256 + j) (omega arith))
-    go true false = sym (le-ltb (turn * 256 + x * 256 + i) (0 + y * 256 + j) (omega arith))
-    go false false = one-sort 0 (decLt x y) (decLt y x) (decLt i j)
-    go true true = one-sort (turn * 256) (decLt x y) (decLt y x) (decLt i j)
 
 -- ---- slots
 
@@ -79,7 +50,7 @@ module _ (B : Board) where
   -- By its parts.
   pub strict-before : (s : List ℕ) → Strict (before B s)
   unfolding before
-  strict-before s = strict-then _ _ (strict-by _ strict-keys) strict-numbers
+  strict-before s = strict-then _ _ (strict-by _ strict-comparator) strict-numbers
 
   -- Slots go as their keys do.
   pub before-goes : (s : List ℕ) (i j : ℕ) → before B s i j ≡ goes (slotKey B s i) (slotKey B s j) (ltb i j)
@@ -89,7 +60,7 @@ module _ (B : Board) where
   -- Where neither key goes before the other, the lower slot does.
   pub total-before : (s : List ℕ) → Total (before B s)
   unfolding before then by
-  total-before s i j n e = go (comparator ltb (slotKey B s i) (slotKey B s j)) (comparator ltb (slotKey B s j) (slotKey B s i)) (ltb i j) refl e
+  total-before s i j n e = go (comparator (slotKey B s i) (slotKey B s j)) (comparator (slotKey B s j) (slotKey B s i)) (ltb i j) refl e
     where
       go : (a b d : Bool) → ltb i j ≡ d → (a || (not b && d)) ≡ false → (b || (not a && ltb j i)) ≡ true
       go true b d q e = absurd (true≢false e)
@@ -98,7 +69,7 @@ module _ (B : Board) where
 
   -- Equal keys go in the same order.
   pub before-same : (s s′ : List ℕ) (i j : ℕ) → slotKey B s i ≡ slotKey B s′ i → slotKey B s j ≡ slotKey B s′ j → before B s i j ≡ before B s′ i j
-  before-same s s′ i j p q = before-goes s i j ∙ ap₂ (λ (k l : Key ℕ). goes k l (ltb i j)) p q ∙ sym (before-goes s′ i j)
+  before-same s s′ i j p q = before-goes s i j ∙ ap₂ (λ (k l : Key). goes k l (ltb i j)) p q ∙ sym (before-goes s′ i j)
 
   -- A slot on time goes before an early one.
   pub before-early : (s : List ℕ) (i j : ℕ) → isEarly B s i ≡ false → isEarly B s j ≡ true → before B s i j ≡ true
@@ -107,5 +78,5 @@ module _ (B : Board) where
 
   -- The lower rank goes first.
   pub before-rank : (s : List ℕ) (i j : ℕ) → i < 256 → j < 256 → before B s i j ≡ ltb (slotRank B s i) (slotRank B s j)
-  unfolding slotKey
-  before-rank s i j hi hj = before-goes s i j ∙ goes-rank (2 ^ bits c) i j (slotKey B s i) (slotKey B s j) hi hj (minus-lt (bits c) _ _) (minus-lt (bits c) _ _)
+  unfolding before
+  before-rank s i j hi hj = sym (rank-order B s i j hi hj)

@@ -8,21 +8,23 @@ use mathlib.Core.List.{List, [], _∷_}
 use mathlib.Core.Option.{Option, none, some}
 use native.Mathlib.Decide.{ℕ-discrete}
 use native.Mathlib.Omega.{arith}
-use lib.Dec.{leb, ltb}
+use lib.Dec.{ltb}
+use lib.IntN.{pos}
+use lib.Signed.{leZ}
 use borrow.Author.Tests.{lt-ltb, ltb-true}
 use Rattle.rules.specs.Order.{Order, Key, comparator, better, least, topFirst}
 use Rattle.rules.specs.Areas.{has, Grant, nobody, bestEffort, onTime, early}
 use Rattle.rules.specs.Board.{Board, Horizon, Mask}
 use Rattle.rules.specs.Tick.{granted, isEarly, slotKey, candidate, grant}
 use Rattle.rules.proofs.Booleans.{some-inj, none-some, and-left, and-right, beq-eq, eq-beq}
-use Rattle.rules.proofs.OrderLaws.{Strict, least-beats}
+use Rattle.rules.proofs.OrderLaws.{Strict, strict-comparator, least-beats}
 use Rattle.rules.proofs.IndexLaws.{least-in}
 use Rattle.rules.proofs.Soundness.{elem-at}
 use Rattle.queues.specs.Table1.{before, waits, Holds}
 use Rattle.queues.specs.Area.{queue, size, entry, inQueue}
 use Rattle.queues.specs.Engine.{firstOf, first, heading, tableGrant, queueGrant}
 use Rattle.queues.proofs.ListLaws.{first-slot, first-before, none-passes}
-use Rattle.queues.proofs.BeforeLaws.{strict-keys, goes, before-goes, before-early}
+use Rattle.queues.proofs.BeforeLaws.{goes, before-goes, before-early}
 
 -- ---- the least of equal keys is the lowest
 
@@ -82,8 +84,8 @@ module _ (B : Board) where
 
   module _ (s : List ℕ) (p : ℕ) where
     -- Whom the comparator chooses.
-    abbrev winner : Option (ℕ × Key ℕ)
-    winner = least (comparator ltb) (candidate B s p) 256
+    abbrev winner : Option (ℕ × Key)
+    winner = least comparator (candidate B s p) 256
 
     -- The port looks at the slots that wait for it.
     candidate-key : (i : ℕ) → has (get s (Mask, i)) p ≡ true → candidate B s p i ≡ some (slotKey B s i)
@@ -91,7 +93,7 @@ module _ (B : Board) where
     candidate-key i h = rw h
 
     -- And at no others.
-    key-candidate : (i : ℕ) (k : Key ℕ) → candidate B s p i ≡ some k → (has (get s (Mask, i)) p ≡ true) × (slotKey B s i ≡ k)
+    key-candidate : (i : ℕ) (k : Key) → candidate B s p i ≡ some k → (has (get s (Mask, i)) p ≡ true) × (slotKey B s i ≡ k)
     unfolding candidate
     key-candidate i k e = go (has (get s (Mask, i)) p) e
       where
@@ -102,21 +104,21 @@ module _ (B : Board) where
     -- The slot that goes before every other that waits has the least key: were it another's, that slot would be higher, and so its key less.
     winner-first : (i : ℕ) → i < 256 → has (get s (Mask, i)) p ≡ true → ((j : ℕ) → j < 256 → has (get s (Mask, j)) p ≡ true → j ≢ i → before B s i j ≡ true) → winner ≡ some (i, slotKey B s i)
     winner-first i l h earlier =
-        let (j, y, e, f) = least-beats strict-keys (candidate B s p) 256 i (slotKey B s i) l (candidate-key i h) in
-        let (m, q) = least-in (comparator ltb) (candidate B s p) 256 j y e in
+        let (j, y, e, f) = least-beats strict-comparator (candidate B s p) 256 i (slotKey B s i) l (candidate-key i h) in
+        let (m, q) = least-in comparator (candidate B s p) 256 j y e in
         let (g, r) = key-candidate j y q in
         go j y e f m g r (ℕ-discrete j i)
       where
-        go : (j : ℕ) (y : Key ℕ) → winner ≡ some (j, y) → comparator ltb (slotKey B s i) y ≡ false → j < 256 → has (get s (Mask, j)) p ≡ true → slotKey B s j ≡ y → Dec (j ≡ i) → winner ≡ some (i, slotKey B s i)
-        go j y e f m g r (yes d) = e ∙ ap₂ (λ (j : ℕ) (y : Key ℕ). some (j, y)) d (sym r ∙ ap (slotKey B s) d)
+        go : (j : ℕ) (y : Key) → winner ≡ some (j, y) → comparator (slotKey B s i) y ≡ false → j < 256 → has (get s (Mask, j)) p ≡ true → slotKey B s j ≡ y → Dec (j ≡ i) → winner ≡ some (i, slotKey B s i)
+        go j y e f m g r (yes d) = e ∙ ap₂ (λ (j : ℕ) (y : Key). some (j, y)) d (sym r ∙ ap (slotKey B s) d)
         go j y e f m g r (no n) =
-            let z : goes (slotKey B s i) y (ltb i j) ≡ true = ap (λ (k : Key ℕ). goes (slotKey B s i) k (ltb i j)) (sym r) ∙ sym (before-goes B s i j) ∙ earlier j m g n in
-            absurd (lower (comparator ltb y (slotKey B s i)) (ltb i j) refl refl (rw f at z))
+            let z : goes (slotKey B s i) y (ltb i j) ≡ true = ap (λ (k : Key). goes (slotKey B s i) k (ltb i j)) (sym r) ∙ sym (before-goes B s i j) ∙ earlier j m g n in
+            absurd (lower (comparator y (slotKey B s i)) (ltb i j) refl refl (rw f at z))
           where
-            lower : (a b : Bool) → comparator ltb y (slotKey B s i) ≡ a → ltb i j ≡ b → (not a && b) ≡ true → ⊥
+            lower : (a b : Bool) → comparator y (slotKey B s i) ≡ a → ltb i j ≡ b → (not a && b) ≡ true → ⊥
             lower true b u v z = true≢false (sym z)
             lower false false u v z = true≢false (sym z)
-            lower false true u v z = true≢false (sym (least-lower strict-keys (candidate B s p) 256 j y e i (slotKey B s i) (ltb-true i j v) (candidate-key i h)) ∙ u)
+            lower false true u v z = true≢false (sym (least-lower strict-comparator (candidate B s p) 256 j y e i (slotKey B s i) (ltb-true i j v) (candidate-key i h)) ∙ u)
 
     -- With none on time, every slot that waits is early.
     all-early : Holds B s p false [] → (j : ℕ) → j < 256 → has (get s (Mask, j)) p ≡ true → waits B s p true j ≡ true
@@ -141,7 +143,7 @@ module _ (B : Board) where
           earlier e j m g n false q = first-before lo j (slot-waits s p j m g false q) n
 
       -- The first early one, after best-effort and within the horizon.
-      granted-early : {i : ℕ} {l : List ℕ} → Holds B s p false [] → Holds B s p true (i ∷ l) → granted winner b h ≡ cond b bestEffort (cond (leb (slotKey B s i .key) h) (early i) nobody)
+      granted-early : {i : ℕ} {l : List ℕ} → Holds B s p false [] → Holds B s p true (i ∷ l) → granted winner b h ≡ cond b bestEffort (cond (leZ (slotKey B s i .key) (pos h)) (early i) nobody)
       unfolding granted slotKey
       granted-early {i} {l} lo le =
           let (m, g, e) = waits-slot s p true i (first-slot le) in
@@ -152,10 +154,10 @@ module _ (B : Board) where
       unfolding granted
       granted-none lo le = go winner refl
         where
-          go : (v : Option (ℕ × Key ℕ)) → winner ≡ v → granted v b h ≡ cond b bestEffort nobody
+          go : (v : Option (ℕ × Key)) → winner ≡ v → granted v b h ≡ cond b bestEffort nobody
           go none e = refl
           go (some (j, y)) e =
-              let (m, q) = least-in (comparator ltb) (candidate B s p) 256 j y e in
+              let (m, q) = least-in comparator (candidate B s p) 256 j y e in
               absurd (true≢false (sym (all-early lo j m (key-candidate j y q .0)) ∙ none-passes le j))
 
     -- ---- the first of a queue
@@ -197,7 +199,7 @@ module _ (B : Board) where
           go : (b : Bool) → Firsts [] [] (cond b bestEffort nobody)
           go true = tt
           go false = tt
-      table-first zero (suc m) = go b (leb (slotKey B s (entry y m) .key) (get s (Horizon, p)))
+      table-first zero (suc m) = go b (leZ (slotKey B s (entry y m) .key) (pos (get s (Horizon, p))))
         where
           go : (b d : Bool) → Firsts [] (entry y m ∷ topFirst (entry y) m) (cond b bestEffort (cond d (early (entry y m)) nobody))
           go true d = tt

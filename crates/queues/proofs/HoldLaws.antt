@@ -117,7 +117,7 @@ module _ (B : Board) (L : Laws B) where
     -- Equal keys are of one sort.
     key-early : (i j : ℕ) → slotKey B s i ≡ slotKey B s′ j → isEarly B s i ≡ isEarly B s′ j
     unfolding slotKey
-    key-early i j e = ap (λ (k : Key ℕ). k .early) e
+    key-early i j e = ap (λ (k : Key). k .early) e
 
     waits-still : (p : ℕ) → p < 5 → (e : Bool) (j : ℕ) → waits B s p e j ≡ waits B s′ p e j
     unfolding waits

@@ -2,7 +2,7 @@
 -- comparator's order of the others is still the same. Told of the packets that the slots show, whose times are whole numbers. Assumes nothing.
 use Prim.Native.Nat.{ℕ, suc, _-_, _<_}
 use mathlib.Core.Path.{_≡_, refl, sym, ap, ap₂, subst, _∙_}
-use mathlib.Core.Bool.{Bool, true, false, not, _&&_, _||_, true≢false, Bool·beq, and-true, and-false, Bool·not-not}
+use mathlib.Core.Bool.{Bool, true, false, cond, not, _&&_, _||_, true≢false, Bool·beq, and-true, and-false, Bool·not-not}
 use mathlib.Core.List.{List}
 use mathlib.Core.Option.{Option, none, some}
 use native.Mathlib.Omega.{arith}
@@ -14,17 +14,18 @@ use borrow.Author.Tests.{eqb-true, lt-ltb, le-ltb}
 use Rattle.rules.specs.Areas.{Store, half, has}
 use Rattle.rules.specs.Board.{Board, Mask, clock}
 use Rattle.rules.specs.Demand3.{HeldShown}
-use Rattle.rules.specs.Order.{Key, by, then, onTimeFirst, comparator}
+use Rattle.rules.specs.Order.{Key, by, comparator}
 use Rattle.rules.specs.Tick.{isEarly, slotKey, isDue as isDueNow, arrived, served, ticked}
 use Rattle.rules.specs.Whole.{Packet, Held, Router, TickCall, isDue, remaining, packetKey}
 use Rattle.rules.specs.Whole as Whole
 use Rattle.rules.proofs.BoardLaws.{Laws}
 use Rattle.rules.proofs.Booleans.{true→T, T→true, and-left, and-right, and-both, not-false}
-use Rattle.rules.proofs.Comparator.{keyOf, readKey, read-early, comparator-whole, comparator-still}
+use Rattle.rules.proofs.Comparator.{shownKey, comparator-less-clock, comparator-still, slot-key}
+use Rattle.rules.proofs.Grants.{first-no-later, not-before}
 use Rattle.rules.proofs.Good.{InWindow, HeldInWindow, Good, Input, window-more, after, serving, ended-frame, clock-at, window-then, tick-good}
 use Rattle.rules.proofs.Integers.{orders, add-nat, suc-nat, not-lt}
 use Rattle.rules.proofs.Masks.{has-zero}
-use Rattle.rules.proofs.OrderLaws.{fails}
+use Rattle.rules.proofs.OrderLaws.{fails, strict-comparator}
 use Rattle.rules.proofs.Refine.{tick-rel}
 use Rattle.rules.proofs.RefineArrivals.{arrived-rel}
 use Rattle.rules.proofs.RefineServed.{served-rel}
@@ -33,7 +34,7 @@ use Rattle.rules.proofs.TimeLaws.{window-due}
 use Rattle.rules.proofs.WholeLaws.{AllHeld, emptied-place}
 use Rattle.queues.specs.Table1.{before, waits, Lists, Holds}
 use Rattle.queues.proofs.ListLaws.{Front, dropped, moved, lists-as, lists-same, lists-dropped, lists-moved}
-use Rattle.queues.proofs.BeforeLaws.{strict-keys, goes, before-goes, strict-before, total-before}
+use Rattle.queues.proofs.BeforeLaws.{goes, before-goes, strict-before, total-before}
 use Rattle.queues.proofs.ChoiceLaws.{waits-slot, slot-waits}
 
 -- A due packet's deadline is the clock.
@@ -46,19 +47,22 @@ unfolding isDue
 is-due t x a b = and-both (leZ (x .deadline) t) (leZ t (x .deadline)) (T→true (leZ (x .deadline) t) a) (T→true (leZ t (x .deadline)) b)
 
 -- What goes before by the comparator doesn't go after.
-goes-not-back : (k l : Key ℕ) (t : Bool) → goes k l t ≡ true → comparator ltb l k ≡ false
-goes-not-back k l t e = go (comparator ltb k l) (comparator ltb l k) refl refl e
+goes-not-back : (k l : Key) (t : Bool) → goes k l t ≡ true → comparator l k ≡ false
+goes-not-back k l t e = go (comparator k l) (comparator l k) refl refl e
   where
-    go : (a b : Bool) → comparator ltb k l ≡ a → comparator ltb l k ≡ b → (a || (not b && t)) ≡ true → comparator ltb l k ≡ false
-    go true true p q e = absurd (strict-keys .irrefl k (strict-keys .trans k l k p q))
+    go : (a b : Bool) → comparator k l ≡ a → comparator l k ≡ b → (a || (not b && t)) ≡ true → comparator l k ≡ false
+    go true true p q e = absurd (strict-comparator .irrefl k (strict-comparator .trans k l k p q))
     go a false p q e = q
     go false true p q e = absurd (true≢false (sym e))
 
--- Of packets of one sort the comparator goes by their keys.
-same-sort : (t : ℤ) (x y : Packet) (e : Bool) → ltZ t (x .time) ≡ e → ltZ t (y .time) ≡ e → by (packetKey t) (comparator ltZ) x y ≡ ltZ (keyOf e x) (keyOf e y)
-unfolding by comparator then onTimeFirst
-same-sort t x y true p q = rw (p, q)
-same-sort t x y false p q = rw (p, q)
+-- The key of a packet of either sort, a time or a deadline.
+abbrev keyOf : Bool → Packet → ℤ
+keyOf e x = cond e (x .time) (x .deadline)
+
+-- Of packets of one sort, what another doesn't go before has no later key.
+key-no-later : (t : ℤ) (x y : Packet) (e : Bool) → ltZ t (x .time) ≡ e → ltZ t (y .time) ≡ e → by (packetKey t) comparator y x ≡ false → T (leZ (keyOf e x) (keyOf e y))
+key-no-later t x y true p q n = first-no-later _ _ _ _ (not-before t y x true true q p n)
+key-no-later t x y false p q n = first-no-later _ _ _ _ (not-before t y x false false q p n .1)
 
 module _ (B : Board) (L : Laws B) where
   open Board B using (clockBytes as c, get)
@@ -67,7 +71,7 @@ module _ (B : Board) (L : Laws B) where
 
   -- Slot j at the clock t shows the packet x.
   pub record Shows (s : List ℕ) (t : ℤ) (j : ℕ) (x : Packet) : Type 0 where
-    pub key : slotKey B s j ≡ readKey c t x
+    pub key : slotKey B s j ≡ shownKey t x
     pub window : InWindow c t (half c) x
     pub due : isDueNow B s j ≡ isDue t x
 
@@ -78,21 +82,21 @@ module _ (B : Board) (L : Laws B) where
       let H : HeldShown B r j h = subst (SlotShows B L r j) e (R .place j l) in
       let t = R .settings .reads clock refl (omega arith) in
       let W = window-more c (w .clock) _ (half c) (h .packet) (omega arith) (F j l h e .window) in
-      record { key = rw (H .time, H .deadline, t); window = W; due = ap₂ eqb (H .deadline) t ∙ window-due c (w .clock) (h .packet) W }
+      record { key = slot-key B (r .state) j (w .clock) (h .packet) t (H .time) (H .deadline) W; window = W; due = ap₂ eqb (H .deadline) t ∙ window-due c (w .clock) (h .packet) W }
 
   module _ {s : List ℕ} {t : ℤ} {j : ℕ} {x : Packet} (S : Shows s t j x) where
     -- The slot is early where the packet is.
     early-shown : isEarly B s j ≡ ltZ t (x .time)
     unfolding slotKey
-    early-shown = ap (λ (k : Key ℕ). k .early) (S .key) ∙ read-early c t x (S .window)
+    early-shown = ap (λ (k : Key). k .early) (S .key)
 
   module _ {s : List ℕ} {t : ℤ} {i j : ℕ} {x y : Packet} (S : Shows s t i x) (S′ : Shows s t j y) where
     -- Of slots of one sort, the one that goes before has no later key.
     keys-ordered : (e : Bool) → isEarly B s i ≡ e → isEarly B s j ≡ e → before B s i j ≡ true → T (leZ (keyOf e x) (keyOf e y))
+    unfolding by
     keys-ordered e p q h =
-        let b : comparator ltb (slotKey B s j) (slotKey B s i) ≡ false = goes-not-back (slotKey B s i) (slotKey B s j) (ltb i j) (sym (before-goes B s i j) ∙ h) in
-        not-lt (keyOf e y) (keyOf e x)
-        (sym (ap₂ (comparator ltb) (S′ .key) (S .key) ∙ comparator-whole c t y x (S′ .window) (S .window) ∙ same-sort t y x e (sym (early-shown S′) ∙ q) (sym (early-shown S) ∙ p)) ∙ b)
+        let b = goes-not-back (slotKey B s i) (slotKey B s j) (ltb i j) (sym (before-goes B s i j) ∙ h) in
+        key-no-later t x y e (sym (early-shown S) ∙ p) (sym (early-shown S′) ∙ q) (sym (ap₂ comparator (S′ .key) (S .key) ∙ comparator-less-clock t (packetKey t y) (packetKey t x)) ∙ b)
 
     -- While both stay of their sorts, the order is still the same at another clock.
     pub order-still : {s₂ : List ℕ} {u : ℤ} → Shows s₂ u i x → Shows s₂ u j y → isEarly B s₂ i ≡ isEarly B s i → isEarly B s₂ j ≡ isEarly B s j → before B s i j ≡ before B s₂ i j
@@ -101,8 +105,8 @@ module _ (B : Board) (L : Laws B) where
         let ej = sym (early-shown S′) ∙ sym q ∙ early-shown U′ in
         before-goes B s i j
         ∙ ap₂ (λ (a b : Bool). a || (not b && ltb i j))
-        (ap₂ (comparator ltb) (S .key) (S′ .key) ∙ comparator-still c t u x y (S .window) (S′ .window) (U .window) (U′ .window) ei ej ∙ sym (ap₂ (comparator ltb) (U .key) (U′ .key)))
-        (ap₂ (comparator ltb) (S′ .key) (S .key) ∙ comparator-still c t u y x (S′ .window) (S .window) (U′ .window) (U .window) ej ei ∙ sym (ap₂ (comparator ltb) (U′ .key) (U .key)))
+        (ap₂ comparator (S .key) (S′ .key) ∙ comparator-still t u x y ei ej ∙ sym (ap₂ comparator (U .key) (U′ .key)))
+        (ap₂ comparator (S′ .key) (S .key) ∙ comparator-still t u y x ej ei ∙ sym (ap₂ comparator (U′ .key) (U .key)))
         ∙ sym (before-goes B s₂ i j)
 
   -- ---- from the state that the ports leave to the state after the tick

@@ -4,7 +4,9 @@ use mathlib.Core.Bool.{Bool, true, false, cond, _&&_}
 use mathlib.Core.List.{List, [], _∷_}
 use mathlib.Core.Option.{Option, none, some}
 use lib.ListN.{length, replicate}
-use lib.Dec.{leb, eqb}
+use lib.Dec.{eqb}
+use lib.IntN.{pos}
+use lib.Signed.{leZ}
 use Rattle.rules.specs.Order.{all, count}
 use Rattle.rules.specs.Areas.{Store, Outcome, numberReply, packet, has, perPort, Grant, nobody, bestEffort, onTime, early, grantCode, answersArea, asked}
 use Rattle.rules.specs.Board.{Board, Horizon, Idle, Mask, free}
@@ -66,7 +68,7 @@ module _ (B : Board) where
   unfoldable pub tableGrant : List ℕ → ℕ → Bool → Option ℕ → Option ℕ → Grant ℕ
   tableGrant s p b (some i) x = onTime i
   tableGrant s p b none none = cond b bestEffort nobody
-  tableGrant s p b none (some i) = cond b bestEffort (cond (leb (slotKey B s i .key) (get s (Horizon, p))) (early i) nobody)
+  tableGrant s p b none (some i) = cond b bestEffort (cond (leZ (slotKey B s i .key) (pos (get s (Horizon, p)))) (early i) nobody)
 
   unfoldable pub queueGrant : List ℕ → List ℕ → ℕ → ℕ → Grant ℕ
   queueGrant s q waiting p = tableGrant s p (has waiting p) (heading s p (first (queue q p false))) (heading s p (first (queue q p true)))

@@ -23,9 +23,9 @@ pub record Lists (less : Order ℕ) (test : ℕ → Bool) (l : List ℕ) : Type 
 module _ (B : Board) where
   open Board B using (get)
 
-  -- Of two slots, the one that the comparator puts first; of equal keys the lower.
+  -- Of two slots, the one that the comparator puts first; where both keys are equal, the lower.
   unfoldable pub before : List ℕ → Order ℕ
-  before s = then (by (slotKey B s) (comparator ltb)) ltb
+  before s = then (by (slotKey B s) comparator) ltb
 
   -- Slot i waits for port p, and is of the sort e, early or on time.
   unfoldable pub waits : List ℕ → ℕ → Bool → ℕ → Bool

@@ -1,66 +1,67 @@
--- The comparator's order does not depend on the clock while both packets stay of one sort: it is the order of their whole-number keys, since both are less by the same clock. Assumes nothing.
+-- Slots go in the order of the packets that they show: what the comparator sees of a slot is what it sees of the packet, both keys less the clock. So while two packets stay of their
+-- sorts, the clock does not change their order. Assumes nothing.
 use Prim.Native.Nat.{ℕ}
 use mathlib.Core.Path.{_≡_, refl, sym, ap, ap₂, _∙_}
 use mathlib.Core.Bool.{Bool, true, false, cond}
-use lib.Dec.{ltb}
+use mathlib.Core.List.{List}
 use lib.IntN.{ℤ, pos, _-ℤ_}
-use lib.Signed.{leZ, ltZ}
+use lib.Signed.{ltZ}
 use Rattle.rules.specs.Areas.{bits, half}
+use Rattle.rules.specs.Board.{Board, Time, Deadline, clock}
 use Rattle.rules.specs.Clock.{cut, minus, offset}
-use Rattle.rules.specs.Order.{by, then, Key, onTimeFirst, comparator}
+use Rattle.rules.specs.Order.{by, then, Key, comparator}
+use Rattle.rules.specs.Tick.{slotKey}
 use Rattle.rules.specs.Whole.{Packet, packetKey}
 use Rattle.rules.proofs.Booleans.{true→T}
 use Rattle.rules.proofs.Integers.{diff-gt, diff-lt}
-use Rattle.rules.proofs.Offsets.{at-most}
 use Rattle.rules.proofs.Good.{InWindow}
-use Rattle.rules.proofs.TimeLaws.{window-offset, window-on-time, window-early}
+use Rattle.rules.proofs.TimeLaws.{window-offset, window-early, window-deadline}
 
--- The key of a packet of either sort, a time or a deadline.
-abbrev pub keyOf : Bool → Packet → ℤ
-keyOf e x = cond e (x .time) (x .deadline)
+-- Both keys less the clock.
+abbrev pub lessClock : ℤ → Key → Key
+lessClock t k = record { early = k .early; key = k .key -ℤ t; second = k .second -ℤ t }
 
-module _ (c : ℕ) where
-  -- What it sees of a slot by its time, its deadline and the clock.
-  abbrev pub keyAt : ℕ → ℕ → ℕ → Key ℕ
-  keyAt u v t = let e = ltZ (pos 0) (offset (bits c) u t) in record { early = e; key = minus (bits c) (cond e u v) t }
+-- Keys go in the same order then.
+pub comparator-less-clock : (t : ℤ) (k l : Key) → comparator (lessClock t k) (lessClock t l) ≡ comparator k l
+unfolding comparator then by
+comparator-less-clock t k l = rw (diff-lt t (k .key) (l .key), diff-lt t (l .key) (k .key), diff-lt t (k .second) (l .second))
 
-  -- Of one that shows the packet, at the clock cut to a reading of c bytes.
-  abbrev pub readKey : ℤ → Packet → Key ℕ
-  readKey t x = keyAt (cut (bits c) (x .time)) (cut (bits c) (x .deadline)) (cut (bits c) t)
+-- What the comparator sees of a packet of either sort.
+abbrev keyOf : Bool → Packet → Key
+keyOf e x = record { early = e; key = cond e (x .time) (x .deadline); second = cond e (x .deadline) (x .time) }
 
-  module _ (t : ℤ) (x : Packet) (F : InWindow c t (half c) x) where
-    -- It is early where the packet is.
-    pub read-early : readKey t x .early ≡ ltZ t (x .time)
-    read-early = ap (ltZ (pos 0)) (window-offset c t x F) ∙ diff-gt (x .time) t
+-- What it sees of a packet at the clock.
+abbrev pub shownKey : ℤ → Packet → Key
+shownKey t x = lessClock t (packetKey t x)
 
-    -- Its key is the packet's less the clock.
-    pub read-key : (e : Bool) → ltZ t (x .time) ≡ e → pos (minus (bits c) (cond e (cut (bits c) (x .time)) (cut (bits c) (x .deadline))) (cut (bits c) t)) ≡ keyOf e x -ℤ t
-    read-key true q = window-early c t x F (true→T (ltZ t (x .time)) q)
-    read-key false q = window-on-time c t x F (true→T (leZ (x .time) t) (at-most t (x .time) false q))
+-- While both stay of one sort, their order is the same at another clock.
+pub comparator-still : (t u : ℤ) (x y : Packet) → ltZ t (x .time) ≡ ltZ u (x .time) → ltZ t (y .time) ≡ ltZ u (y .time) → comparator (shownKey t x) (shownKey t y) ≡ comparator (shownKey u x) (shownKey u y)
+comparator-still t u x y p q =
+    comparator-less-clock t (packetKey t x) (packetKey t y)
+    ∙ ap₂ (λ (d e : Bool). comparator (keyOf d x) (keyOf e y)) p q
+    ∙ sym (comparator-less-clock u (packetKey u x) (packetKey u y))
 
-  -- Two packets go in the order of their whole-number keys.
-  pub comparator-whole : (t : ℤ) (x y : Packet) → InWindow c t (half c) x → InWindow c t (half c) y → comparator ltb (readKey t x) (readKey t y) ≡ by (packetKey t) (comparator ltZ) x y
-  unfolding comparator then by onTimeFirst
-  comparator-whole t x y F G = rw (read-early t x F, read-early t y G) (go (ltZ t (x .time)) (ltZ t (y .time)) refl refl)
+module _ (B : Board) where
+  open Board B using (clockBytes as c, get)
+
+  -- A slot that shows the packet x at the clock t.
+  pub slot-key : (s : List ℕ) (i : ℕ) (t : ℤ) (x : Packet) → get s clock ≡ cut (bits c) t → get s (Time, i) ≡ cut (bits c) (x .time) → get s (Deadline, i) ≡ cut (bits c) (x .deadline)
+      → InWindow c t (half c) x → slotKey B s i ≡ shownKey t x
+  unfolding slotKey
+  slot-key s i t x et eu ed F = rw (et, eu, ed) (ap seen (ap (ltZ (pos 0)) (window-offset c t x F) ∙ diff-gt (x .time) t) ∙ go (ltZ t (x .time)) refl)
     where
-      n : Packet → Bool → ℕ
-      n z e = minus (bits c) (cond e (cut (bits c) (z .time)) (cut (bits c) (z .deadline))) (cut (bits c) t)
+      now : ℕ
+      now = cut (bits c) t
 
-      one-sort : (e : Bool) → ltZ t (x .time) ≡ e → ltZ t (y .time) ≡ e → ltb (n x e) (n y e) ≡ ltZ (keyOf e x) (keyOf e y)
-      one-sort e p q = ap₂ ltZ (read-key t x F e p) (read-key t y G e q) ∙ diff-lt t (keyOf e x) (keyOf e y)
+      u : ℕ
+      u = cut (bits c) (x .time)
 
-      go : (d e : Bool) → ltZ t (x .time) ≡ d → ltZ t (y .time) ≡ e
-          → comparator ltb (record { early = d; key = n x d }) (record { early = e; key = n y e }) ≡ comparator ltZ (record { early = d; key = keyOf d x }) (record { early = e; key = keyOf e y })
-      go true true p q = one-sort true p q
-      go false false p q = one-sort false p q
-      go true false p q = refl
-      go false true p q = refl
+      d : ℕ
+      d = cut (bits c) (x .deadline)
 
-  -- So while both stay of one sort, the clock does not change it.
-  pub comparator-still : (t u : ℤ) (x y : Packet) → InWindow c t (half c) x → InWindow c t (half c) y → InWindow c u (half c) x → InWindow c u (half c) y
-      → ltZ t (x .time) ≡ ltZ u (x .time) → ltZ t (y .time) ≡ ltZ u (y .time) → comparator ltb (readKey t x) (readKey t y) ≡ comparator ltb (readKey u x) (readKey u y)
-  unfolding by
-  comparator-still t u x y F G F′ G′ p q =
-      comparator-whole t x y F G
-      ∙ ap₂ (λ (d e : Bool). comparator ltZ (record { early = d; key = keyOf d x }) (record { early = e; key = keyOf e y })) p q
-      ∙ sym (comparator-whole u x y F′ G′)
+      seen : Bool → Key
+      seen e = record { early = e; key = pos (minus (bits c) (cond e u d) now); second = cond e (pos (minus (bits c) d now)) (offset (bits c) u now) }
+
+      go : (e : Bool) → ltZ t (x .time) ≡ e → seen e ≡ lessClock t (keyOf e x)
+      go true q = ap₂ (λ (k l : ℤ). record { early = true; key = k; second = l }) (window-early c t x F (true→T (ltZ t (x .time)) q)) (window-deadline c t x F)
+      go false q = ap₂ (λ (k l : ℤ). record { early = false; key = k; second = l }) (window-deadline c t x F) (window-offset c t x F)

@@ -1,19 +1,21 @@
 -- Whom the router that never turns over grants a port: the winner is the least in a strict order, so that no packet that waits for the port goes before it. Assumes nothing.
 use Prim.Native.Nat.{ℕ, _<_}
-use mathlib.Core.Path.{_≡_, refl, sym}
-use mathlib.Core.Bool.{Bool, true, false, cond, true≢false}
+use mathlib.Core.Path.{_≡_, refl, sym, subst}
+use mathlib.Core.Bool.{Bool, true, false, cond, not, _&&_, _||_, true≢false}
+use mathlib.Core.Logic.{inl, inr}
 use mathlib.Core.Option.{Option, none, some}
 use native.Mathlib.Omega.{arith}
 use lib.Dec.{T}
-use lib.IntN.{pos, _-ℤ_}
+use lib.IntN.{ℤ, pos, _-ℤ_}
 use lib.Signed.{leZ, ltZ}
+use Rattle.rules.specs.Account.{NoLater}
 use Rattle.rules.specs.Areas.{has, Grant, nobody, bestEffort, onTime, early}
-use Rattle.rules.specs.Order.{least, Order, by, then, onTimeFirst, comparator}
+use Rattle.rules.specs.Order.{least, Order, by, then, Key, onTimeFirst, comparator}
 use Rattle.rules.specs.Whole.{Packet, Held, Router, toServe, packetKey, granted, grant}
 use Rattle.rules.proofs.Booleans.{some-inj, none-some, true→T, T→true}
 use Rattle.rules.proofs.IndexLaws.{least-in}
-use Rattle.rules.proofs.OrderLaws.{fails, strict-wholes, strict-by, strict-comparator, least-beats}
-use Rattle.rules.proofs.Integers.{orders, diff-nat, not-lt}
+use Rattle.rules.proofs.OrderLaws.{fails, strict-by, strict-comparator, least-beats}
+use Rattle.rules.proofs.Integers.{orders, diff-nat, antisym, not-lt}
 
 -- What a grant of port p at the router r rests on.
 abbrev pub Rests : Router → ℕ → Grant (ℕ × Packet) → Type 0
@@ -22,9 +24,47 @@ Rests r p bestEffort = Unit {0}
 Rests r p (onTime (i, x)) = (i < 256) × (toServe (r .place i) p ≡ some x) × T (leZ (x .time) (r .clock))
 Rests r p (early (i, x)) = (i < 256) × (toServe (r .place i) p ≡ some x) × T (ltZ (r .clock) (x .time)) × T (leZ (x .time -ℤ r .clock) (pos (r .horizon p)))
 
+-- ---- what doesn't go before another
+
+-- By the one and then by the other, it is no earlier.
+no-later : (a b d e : ℤ) → (ltZ a d || (not (ltZ d a) && ltZ b e)) ≡ false → NoLater (d, e) (a, b)
+no-later a b d e n = go (ltZ a d) (ltZ d a) (ltZ b e) refl refl refl n
+  where
+    go : (l m t : Bool) → ltZ a d ≡ l → ltZ d a ≡ m → ltZ b e ≡ t → (l || (not m && t)) ≡ false → NoLater (d, e) (a, b)
+    go true m t p q z n = absurd (true≢false n)
+    go false true t p q z n = inl (record { lt = true→T (ltZ d a) q })
+    go false false true p q z n = absurd (true≢false n)
+    go false false false p q z n = inr (antisym d a (not-lt a d p) (not-lt d a q), record { le = not-lt b e z })
+
+-- Nor by the one alone.
+pub first-no-later : (d e a b : ℤ) → NoLater (d, e) (a, b) → T (leZ d a)
+first-no-later d e a b (inl l) = let k = l .lt in omega (arith, orders)
+first-no-later d e a b (inr (q, l)) = subst (λ (z : ℤ). T (leZ d z)) q (omega (arith, orders))
+
+-- What a packet on time doesn't go before is on time, of no later deadline, nor of the same and a later time; of two early ones, the other way round.
+abbrev pub Behind : Packet → Packet → Bool → Bool → Type 0
+Behind x y false t = (t ≡ false) × NoLater (y .deadline, y .time) (x .deadline, x .time)
+Behind x y true false = Unit {0}
+Behind x y true true = NoLater (y .time, y .deadline) (x .time, x .deadline)
+
+pub not-before : (t : ℤ) (x y : Packet) (a b : Bool) → ltZ t (x .time) ≡ a → ltZ t (y .time) ≡ b → by (packetKey t) comparator x y ≡ false → Behind x y a b
+unfolding by comparator then onTimeFirst
+not-before t x y a b p q n = go a b (rw (sym p, sym q) n)
+  where
+    seen : Bool → Packet → Key
+    seen e x = record { early = e; key = cond e (x .time) (x .deadline); second = cond e (x .deadline) (x .time) }
+
+    go : (a b : Bool) → comparator (seen a x) (seen b y) ≡ false → Behind x y a b
+    go false true n = absurd (true≢false n)
+    go false false n = (refl, no-later (x .deadline) (x .time) (y .deadline) (y .time) n)
+    go true true n = no-later (x .time) (x .deadline) (y .time) (y .deadline) n
+    go true false n = tt
+
+-- ---- the grant
+
 module _ (r : Router) (b p : ℕ) where
   abbrev before : Order Packet
-  before = by (packetKey (r .clock)) (comparator ltZ)
+  before = by (packetKey (r .clock)) comparator
 
   abbrev waiting : ℕ → Option Packet
   waiting i = toServe (r .place i) p
@@ -40,31 +80,15 @@ module _ (r : Router) (b p : ℕ) where
 
   -- Against each waiting packet there is a winner that it doesn't go before.
   wins : (i : ℕ) (x : Packet) → i < 256 → waiting i ≡ some x → (j : ℕ) × (y : Packet) × (winner ≡ some (j, y)) × (before x y ≡ false)
-  wins = least-beats (strict-by (packetKey (r .clock)) (strict-comparator strict-wholes)) waiting 256
+  wins = least-beats (strict-by (packetKey (r .clock)) strict-comparator) waiting 256
 
-  -- What a packet on time doesn't go before is on time, of no later deadline; of two early ones, of no later time.
-  abbrev Behind : Packet → Packet → Bool → Bool → Type 0
-  Behind x y false t = (t ≡ false) × T (leZ (y .deadline) (x .deadline))
-  Behind x y true false = Unit {0}
-  Behind x y true true = T (leZ (y .time) (x .time))
-
-  not-before : (x y : Packet) (a t : Bool) → isEarly x ≡ a → isEarly y ≡ t → before x y ≡ false → Behind x y a t
-  unfolding by comparator then onTimeFirst
-  not-before x y a t p q n = go a t (rw (sym p, sym q) n)
-    where
-      go : (a t : Bool) → comparator ltZ (record { early = a; key = cond a (x .time) (x .deadline) }) (record { early = t; key = cond t (y .time) (y .deadline) }) ≡ false → Behind x y a t
-      go false true n = absurd (true≢false n)
-      go false false n = (refl, not-lt (x .deadline) (y .deadline) n)
-      go true true n = not-lt (x .time) (y .time) n
-      go true false n = tt
-
-  -- A waiting packet whose time has come makes the port send on time one of no later deadline.
-  pub grant-on-time : (i : ℕ) (x : Packet) → i < 256 → waiting i ≡ some x → T (leZ (x .time) (r .clock)) → (j : ℕ) × (y : Packet) × (grant r b p ≡ onTime (j, y)) × T (leZ (y .deadline) (x .deadline))
+  -- A waiting packet whose time has come makes the port send on time, and none that it goes before.
+  pub grant-on-time : (i : ℕ) (x : Packet) → i < 256 → waiting i ≡ some x → T (leZ (x .time) (r .clock)) → (j : ℕ) × (y : Packet) × (grant r b p ≡ onTime (j, y)) × NoLater (y .deadline, y .time) (x .deadline, x .time)
   unfolding grant granted
   grant-on-time i x l e h =
       let (j, y, q, n) = wins i x l e in
       let on-time = fails (isEarly x) (λ k. let m = true→T (isEarly x) k in omega (arith, orders)) in
-      let (z, d) = not-before x y false (isEarly y) on-time refl n in
+      let (z, d) = not-before (r .clock) x y false (isEarly y) on-time refl n in
       (j, y, rw (q, z), d)
 
   -- Best-effort has the port only where it waits.
@@ -96,12 +120,13 @@ module _ (r : Router) (b p : ℕ) where
         go none q = refl
         go (some (j, y)) q = rw (winner-early j y q)
 
-    -- Else a packet within the horizon makes it send early one of no later time.
-    pub grant-early : has b p ≡ false → (i : ℕ) (x : Packet) → i < 256 → waiting i ≡ some x → T (isNear x) → (j : ℕ) × (y : Packet) × (grant r b p ≡ early (j, y)) × T (leZ (y .time) (x .time))
+    -- Else a packet within the horizon makes it send early, and none that it goes before.
+    pub grant-early : has b p ≡ false → (i : ℕ) (x : Packet) → i < 256 → waiting i ≡ some x → T (isNear x) → (j : ℕ) × (y : Packet) × (grant r b p ≡ early (j, y)) × NoLater (y .time, y .deadline) (x .time, x .deadline)
     unfolding grant granted
     grant-early f i x l e h =
         let (j, y, q, n) = wins i x l e in
-        let le = not-before x y true true (T→true (isEarly x) (all-early i x l e)) (winner-early j y q) n in
+        let le = not-before (r .clock) x y true true (T→true (isEarly x) (all-early i x l e)) (winner-early j y q) n in
+        let m = first-no-later _ _ _ _ le in
         let near = T→true (isNear y) (omega (arith, orders, diff-nat (x .time) (r .clock), diff-nat (y .time) (r .clock))) in
         (j, y, rw (q, winner-early j y q, f, near), le)
 

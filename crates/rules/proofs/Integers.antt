@@ -129,12 +129,16 @@ diff-in-time n u v =
     let m = neg-nat (pos n) in
     same-test (leZ (negℤ (pos n)) (u -ℤ v)) (leZ v (u +ℤ pos n)) (λ t. omega (arith, orders)) (λ t. omega (arith, orders))
 
--- Offsets at one clock are in the order of the times.
+-- Numbers that are more by the same are in one order.
+pub sum-lt : (v u w : ℤ) → ltZ (u +ℤ v) (w +ℤ v) ≡ ltZ u w
+sum-lt v u w =
+    let d = add-nat u v in
+    let e = add-nat w v in
+    same-test (ltZ (u +ℤ v) (w +ℤ v)) (ltZ u w) (λ t. omega (arith, orders)) (λ t. omega (arith, orders))
+
+-- So offsets at one clock are in the order of the times.
 pub diff-lt : (v u w : ℤ) → ltZ (u -ℤ v) (w -ℤ v) ≡ ltZ u w
-diff-lt v u w =
-    let d = diff-nat u v in
-    let e = diff-nat w v in
-    same-test (ltZ (u -ℤ v) (w -ℤ v)) (ltZ u w) (λ t. omega (arith, orders)) (λ t. omega (arith, orders))
+diff-lt v u w = sum-lt (negℤ v) u w
 
 -- ---- tests of naturals
 

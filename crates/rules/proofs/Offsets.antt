@@ -1,18 +1,19 @@
 -- The signed reading of a number of b bits, by tests of the number: from half a turn on it is below zero, by what is left of the turn. Assumes nothing.
 use Prim.Native.Nat.{ℕ, zero, suc, _+_, _-_, _*_, _/_, _%_, _^_, _<_, _≤_}
-use mathlib.Core.Path.{_≡_, refl, sym, ap, _∙_}
+use mathlib.Core.Path.{_≡_, refl, sym, ap, ap₂, _∙_}
 use mathlib.Core.Bool.{Bool, true, not, Bool·not-not, _&&_, _||_, or-true, or-false}
 use native.Mathlib.Decide.{decLt}
 use native.Mathlib.Omega.{arith}
 use native.Mathlib.Nat.{mod-lt, div-add-mod'}
 use lib.Pow.{pow-pos}
 use lib.Dec.{leb, ltb, eqb, leb·suc-suc}
-use lib.IntN.{ℤ, pos, negsuc, negℤ}
+use lib.IntN.{ℤ, pos, negsuc, negℤ, _+ℤ_}
 use lib.Signed.{leZ, ltZ}
 use borrow.Author.Tests.{lt-ltb, le-ltb, lt-leb, le-leb, eq-eqb, ne-eqb}
 use Rattle.rules.specs.Clock.{plus, minus, signed, offset}
 use Rattle.rules.specs.Areas.{bits, half}
-use Rattle.rules.proofs.ClockLaws.{turns, pow-double, minus-view, minus-lt}
+use Rattle.rules.proofs.ClockLaws.{turns, pow-double, minus-view, minus-lt, signed-view}
+use Rattle.rules.proofs.Integers.{up, down, nat-eq, add-nat, sum-lt}
 
 -- At least - d.
 not-below : (d x : ℕ) → leZ (negℤ (pos d)) (pos x) ≡ true
@@ -82,6 +83,27 @@ module _ (c a t x : ℕ) (e : x ≡ minus (bits c) a t) where
   pub offset-at-least : (d : ℕ) → leZ (negℤ (pos d)) (offset (bits c) a t) ≡ (ltb x (half c) || leb (2 ^ bits c - x) d)
   unfolding bits half
   offset-at-least d = rw offset-signed (at-least (8 * c - 1) x difference-lt d)
+
+-- ---- the order of offsets
+
+-- The signed reading and half a turn, from 0 to less than a turn.
+raised : (k x : ℕ) → x < 2 ^ suc k → pos (plus (suc k) x (2 ^ k)) ≡ signed (suc k) x +ℤ pos (2 ^ k)
+unfolding plus
+raised k x h =
+    let s = signed (suc k) x in
+    let (e, f, low, high) = signed-view k x h in
+    let a = add-nat s (pos (2 ^ k)) in
+    let m = mod-lt (x + 2 ^ k) (pow-pos (suc k)) in
+    nat-eq (pos ((x + 2 ^ k) % 2 ^ suc k)) (s +ℤ pos (2 ^ k))
+    (turns (2 ^ suc k) ((x + 2 ^ k) % 2 ^ suc k + down (s +ℤ pos (2 ^ k))) (up (s +ℤ pos (2 ^ k)) + 0) ((x + 2 ^ k) / 2 ^ suc k) e
+    (omega (arith, div-add-mod' (x + 2 ^ k) (2 ^ suc k))) (omega arith) (omega (arith, pow-double k)))
+
+-- So offsets are in the order of differences that count from half a turn before the clock.
+pub raised-order : (c x y t : ℕ) → ltb (plus (bits c) (minus (bits c) x t) (half c)) (plus (bits c) (minus (bits c) y t) (half c)) ≡ ltZ (offset (bits c) x t) (offset (bits c) y t)
+unfolding offset bits half
+raised-order c x y t =
+    let k = 8 * c - 1 in
+    ap₂ ltZ (raised k (minus (suc k) x t) (minus-lt (suc k) x t)) (raised k (minus (suc k) y t) (minus-lt (suc k) y t)) ∙ sum-lt (pos (2 ^ k)) (offset (suc k) x t) (offset (suc k) y t)
 
 -- ---- the window of a stored packet's time
 

@@ -179,6 +179,7 @@ strict-on-time-first = record { irrefl = irrefl; trans = trans; cotrans = cotran
     cotrans false true false e = inl cc
     cotrans false false z e = inr e
 
-pub strict-comparator : {K : Type 0} {less : Order K} → Strict less → Strict (comparator less)
+-- By its parts.
+pub strict-comparator : Strict comparator
 unfolding comparator
-strict-comparator {less = less} S = strict-then (by (λ k. k .early) onTimeFirst) (by (λ k. k .key) less) (strict-by (λ k. k .early) strict-on-time-first) (strict-by (λ k. k .key) S)
+strict-comparator = strict-then _ _ (strict-by _ strict-on-time-first) (strict-then _ _ (strict-by _ strict-wholes) (strict-by _ strict-wholes))

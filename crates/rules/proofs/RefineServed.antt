@@ -5,14 +5,13 @@ use mathlib.Core.Bool.{Bool, true, false, cond}
 use mathlib.Core.List.{List}
 use mathlib.Core.Option.{Option, none, some}
 use native.Mathlib.Omega.{arith}
-use lib.Dec.{leb, ltb}
 use lib.IntN.{ℤ, pos, _-ℤ_}
 use lib.Signed.{leZ, ltZ}
 use borrow.Author.Tests.{eq-eqb, ne-eqb}
 use Rattle.rules.specs.Account.{Kept}
 use Rattle.rules.specs.Areas.{bits, half, packet, has, without, Store, Grant, nobody, bestEffort, onTime, early, grantCode}
 use Rattle.rules.specs.Board.{Board, Horizon, Idle, Time, Deadline, Mask, clock, free}
-use Rattle.rules.specs.Clock.{cut, minus}
+use Rattle.rules.specs.Clock.{cut}
 use Rattle.rules.specs.Demand3.{HeldShown}
 use Rattle.rules.specs.Order.{least, Order, by, Key, comparator}
 use Rattle.rules.specs.Tick.{slotKey, candidate}
@@ -21,7 +20,7 @@ use Rattle.rules.proofs.BoardLaws.{Laws, sameField}
 use Rattle.rules.specs.Tick as Tick
 use Rattle.rules.specs.Whole as Whole
 use Rattle.rules.proofs.IndexLaws.{Keys, Least, least-same}
-use Rattle.rules.proofs.Comparator.{keyAt, readKey, read-early, read-key, comparator-whole}
+use Rattle.rules.proofs.Comparator.{shownKey, comparator-less-clock, slot-key}
 use Rattle.rules.proofs.Masks.{has-zero}
 use Rattle.rules.proofs.WholeLaws.{AllHeld}
 use Rattle.rules.proofs.Grants.{Rests, grant-rests, toServe-held}
@@ -65,59 +64,52 @@ module _ (B : Board) (L : Laws B) where
     -- ---- the keys are in one order
 
     -- The key is what the comparator sees of a slot that shows the packet.
-    abbrev IsKey : Key ℕ → Packet → Type 0
-    IsKey k x = (k ≡ readKey c t x) × InWindow c t (half c) x
+    abbrev IsKey : Key → Packet → Type 0
+    IsKey k x = k ≡ shownKey t x
 
     abbrev before : Order Packet
-    before = by (packetKey t) (comparator ltZ)
+    before = by (packetKey t) comparator
 
-    key-order : (k k′ : Key ℕ) (x x′ : Packet) → IsKey k x → IsKey k′ x′ → comparator ltb k k′ ≡ before x x′
-    key-order k k′ x x′ (q, F) (q′, F′) = ap₂ (comparator ltb) q q′ ∙ comparator-whole c t x x′ F F′
+    key-order : (k k′ : Key) (x x′ : Packet) → IsKey k x → IsKey k′ x′ → comparator k k′ ≡ before x x′
+    unfolding by
+    key-order k k′ x x′ q q′ = ap₂ comparator q q′ ∙ comparator-less-clock t (packetKey t x) (packetKey t x′)
 
     -- The slots that wait for the port show the packets that do.
-    slot-keys : (i : ℕ) → i < 256 → Keys (comparator ltb) before IsKey key-order (candidate B s p i) (toServe (w .place i) p)
-    unfolding candidate slotKey toServe
+    slot-keys : (i : ℕ) → i < 256 → Keys comparator before IsKey key-order (candidate B s p i) (toServe (w .place i) p)
+    unfolding candidate toServe
     slot-keys i l = go (w .place i) refl (R .place i l)
       where
-        at : (h : Held) → HeldShown B r i h → InWindow c t (half c) (h .packet) → (a : Bool) → Keys (comparator ltb) before IsKey key-order (cond a (some (slotKey B s i)) none) (cond a (some (h .packet)) none)
-        at h H F true = (ap₂ (λ (u v : ℕ). keyAt c u v (get s clock)) (H .time) (H .deadline) ∙ ap (keyAt c (cut (bits c) (h .packet .time)) (cut (bits c) (h .packet .deadline))) clock-same, F)
+        at : (h : Held) → HeldShown B r i h → InWindow c t (half c) (h .packet) → (a : Bool) → Keys comparator before IsKey key-order (cond a (some (slotKey B s i)) none) (cond a (some (h .packet)) none)
+        at h H F true = slot-key B s i t (h .packet) clock-same (H .time) (H .deadline) F
         at h H F false = tt
 
-        go : (v : Option Held) → w .place i ≡ v → SlotShows B L r i v → Keys (comparator ltb) before IsKey key-order (candidate B s p i) (toServe v p)
+        go : (v : Option Held) → w .place i ≡ v → SlotShows B L r i v → Keys comparator before IsKey key-order (candidate B s p i) (toServe v p)
         go none q h = rw (h, has-zero p hp) tt
         go (some h) q H = rw (H .left) (at h H (F i l h q .window) (has (h .left) p))
 
     -- By cases of the winner: it is early, and within the horizon, in both.
-    granted-same : (h : ℕ) (v : Option (ℕ × Key ℕ)) (v′ : Option (ℕ × Packet)) → Least (comparator ltb) before IsKey key-order v v′ → (b : Bool) → Tick.granted v b h ≡ strip (Whole.granted v′ b t h)
+    granted-same : (h : ℕ) (v : Option (ℕ × Key)) (v′ : Option (ℕ × Packet)) → Least comparator before IsKey key-order v v′ → (b : Bool) → Tick.granted v b h ≡ strip (Whole.granted v′ b t h)
     unfolding Tick.granted Whole.granted strip
     granted-same h none none q true = refl
     granted-same h none none q false = refl
     granted-same h none (some w) q b = absurd q
     granted-same h (some v) none q b = absurd q
-    granted-same h (some (i, k)) (some (j, x)) (z, (q, F)) b =
-        ap₂ (λ (i : ℕ) (k : Key ℕ). Tick.granted (some (i, k)) b h) z q
-        ∙ ap (λ (e : Bool). Tick.granted (some (j, record { early = e; key = n e })) b h) (read-early c t x F)
-        ∙ go (ltZ t (x .time)) refl b
+    granted-same h (some (i, k)) (some (j, x)) (z, q) b = ap₂ (λ (i : ℕ) (k : Key). Tick.granted (some (i, k)) b h) z q ∙ go (ltZ t (x .time)) b (leZ (x .time -ℤ t) (pos h)) refl
       where
-        n : Bool → ℕ
-        n e = minus (bits c) (cond e (cut (bits c) (x .time)) (cut (bits c) (x .deadline))) (cut (bits c) t)
-
-        near : (a : Bool) → cond a (early j) nobody ≡ strip (cond a (early (j, x)) nobody)
-        near true = refl
-        near false = refl
-
-        go : (e : Bool) → ltZ t (x .time) ≡ e → (b : Bool) → Tick.granted (some (j, record { early = e; key = n e })) b h ≡ strip (cond e (cond b bestEffort (cond (leZ (x .time -ℤ t) (pos h)) (early (j, x)) nobody)) (onTime (j, x)))
-        go false y b = refl
-        go true y true = refl
-        go true y false = subst (λ (z : ℤ). cond (leb (n true) h) (early j) nobody ≡ strip (cond (leZ z (pos h)) (early (j, x)) nobody)) (read-key c t x F true y) (near (leb (n true) h))
+        go : (e b a : Bool) → leZ (x .time -ℤ t) (pos h) ≡ a
+            → cond e (cond b bestEffort (cond (leZ (cond e (x .time) (x .deadline) -ℤ t) (pos h)) (early j) nobody)) (onTime j) ≡ strip (cond e (cond b bestEffort (cond a (early (j, x)) nobody)) (onTime (j, x)))
+        go false b a p = refl
+        go true true a p = refl
+        go true false true p = rw p
+        go true false false p = rw p
 
     -- Both routers grant the port to the same.
     grant-same : (b : ℕ) → Tick.grant B s b p ≡ strip (Whole.grant w b p)
     unfolding Tick.grant Whole.grant
     grant-same b =
-        ap (Tick.granted (least (comparator ltb) (candidate B s p) 256) (has b p)) (R .settings .reads (Horizon, p) refl hp)
-        ∙ granted-same (w .horizon p) (least (comparator ltb) (candidate B s p) 256) (least before (λ i. toServe (w .place i) p) 256)
-        (least-same (comparator ltb) before IsKey key-order (candidate B s p) (λ i. toServe (w .place i) p) 256 slot-keys) (has b p)
+        ap (Tick.granted (least comparator (candidate B s p) 256) (has b p)) (R .settings .reads (Horizon, p) refl hp)
+        ∙ granted-same (w .horizon p) (least comparator (candidate B s p) 256) (least before (λ i. toServe (w .place i) p) 256)
+        (least-same comparator before IsKey key-order (candidate B s p) (λ i. toServe (w .place i) p) 256 slot-keys) (has b p)
 
     -- ---- a port is served
 

@@ -11,7 +11,7 @@ use lib.Dec.{T, eqb, eqb→eq}
 use lib.IntN.{ℤ, sucℤ, pos, _+ℤ_}
 use lib.Signed.{leZ, ltZ, _≤ℤ_}
 use borrow.Author.Tests.{ne-eqb, eq-eqb}
-use Rattle.rules.specs.Account.{NotedTick, samePacket, isSent, times, isLeft, leftOn, sentOn, withdrawnOn, Accepted, Unserved, NoneOnTime, Prompt, answerDue, stored, Stored, Accounts}
+use Rattle.rules.specs.Account.{NotedTick, samePacket, isSent, times, isLeft, leftOn, sentOn, withdrawnOn, Accepted, Unserved, NoneOnTime, NoLater, Prompt, answerDue, stored, Stored, Accounts}
 use Rattle.rules.specs.Areas.{byte, packet, has, bestEffort, onTime, early, asked, arrivalQuestions, arrivalAnswer}
 use Rattle.rules.specs.Order.{count, counted}
 use Rattle.rules.specs.Whole.{Packet, Held, Router, TickCall, Arrival, toServe, meets, arrivalRefusal, arrived, ticked, Report, arrivalCode}
@@ -190,11 +190,11 @@ module _ (c : ℕ) where
       none-ready N i x l e = N x (at-waits i x l e) .lt
 
       -- What waits is at a place, and the grant is the least there.
-      on-time : (x : Packet) → Unserved before d p x → x .time ≤ℤ d .met .clock → (i : ℕ) × (y : Packet) × (d .report .grant p ≡ onTime (i, y)) × (y .deadline ≤ℤ x .deadline)
+      on-time : (x : Packet) → Unserved before d p x → x .time ≤ℤ d .met .clock → (i : ℕ) × (y : Packet) × (d .report .grant p ≡ onTime (i, y)) × NoLater (y .deadline, y .time) (x .deadline, x .time)
       on-time x W ready =
           let (i, l, e) = waits-at x W in
           let (j, y, g, le) = grant-on-time here (d .call .bestEffort) p i x l e (ready .le) in
-          (j, y, grant-reported c t p ∙ g, record { le = le })
+          (j, y, grant-reported c t p ∙ g, le)
 
       clash : {C : Type 0} {w : ℕ × Packet} → d .report .grant p ≡ bestEffort → d .report .grant p ≡ onTime w → C
       clash e q = let z : _≡_ {A = ℕ} 0 1 = cc in absurd (omega arith)
@@ -208,7 +208,7 @@ module _ (c : ℕ) where
         early = λ b N x W near.
             let (i, l, e) = waits-at x W in
             let (j, y, g, le) = grant-early here (d .call .bestEffort) p (none-ready N) b i x l e (near .le) in
-            (j, y, grant-reported c t p ∙ g, record { le = le });
+            (j, y, grant-reported c t p ∙ g, le);
       }
         where
           later : (x : Packet) → Unserved before d p x → d .report .grant p ≡ bestEffort → (v : Bool) → leZ (x .time) (d .met .clock) ≡ v → T (ltZ (d .met .clock) (x .time))

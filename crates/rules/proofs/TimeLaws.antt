@@ -108,11 +108,7 @@ module _ (c : ℕ) (t : ℤ) (x : Packet) (F : InWindow c t (half c) x) where
   pub window-offset : offset (bits c) (cut (bits c) (x .time)) (cut (bits c) t) ≡ x .time -ℤ t
   window-offset = offset-difference c (x .time) t (let l = window-from in omega (arith, orders, F .small, neg-nat (pos (F .delay)), neg-nat (pos (half c)))) (F .soon)
 
-  -- On time, its key is its deadline less the clock.
-  pub window-on-time : T (leZ (x .time) t) → pos (minus (bits c) (cut (bits c) (x .deadline)) (cut (bits c) t)) ≡ x .deadline -ℤ t
-  window-on-time l = key-difference c (x .deadline) t (F .due) (omega (arith, orders, sum, F .small, diff-nat (x .deadline) t, turn c))
-
-  -- Early, its key is its time less the clock.
+  -- Early, its time without sign is its time less the clock.
   pub window-early : T (ltZ t (x .time)) → pos (minus (bits c) (cut (bits c) (x .time)) (cut (bits c) t)) ≡ x .time -ℤ t
   window-early l = key-difference c (x .time) t (omega (arith, orders)) (let s = F .soon in omega (arith, orders, turn c))
 
@@ -120,7 +116,11 @@ module _ (c : ℕ) (t : ℤ) (x : Packet) (F : InWindow c t (half c) x) where
   near : T (ltZ (x .deadline -ℤ t) (pos (2 ^ bits c)))
   near = let s = F .soon in omega (arith, orders, sum, F .small, diff-nat (x .deadline) t, diff-nat (x .time) t, turn c)
 
-  -- So it reads as the clock only where it is the clock.
+  -- So, without sign, it is its deadline less the clock, of either sort.
+  pub window-deadline : pos (minus (bits c) (cut (bits c) (x .deadline)) (cut (bits c) t)) ≡ x .deadline -ℤ t
+  window-deadline = key-difference c (x .deadline) t (F .due) near
+
+  -- And it reads as the clock only where it is the clock.
   pub window-due : eqb (cut (bits c) (x .deadline)) (cut (bits c) t) ≡ isDue t x
   unfolding isDue
   window-due = cut-same (bits c) (x .deadline) t near (F .due)

@@ -3,10 +3,11 @@ use Prim.Native.Nat.{ℕ, _+_, _<_}
 use mathlib.Core.Path.{_≡_}
 use mathlib.Core.Bool.{Bool, true, false, cond, not, _&&_}
 use mathlib.Core.List.{List, [], _∷_, _++_, List·Memᴰ}
+use mathlib.Core.Logic.{_⊎_}
 use mathlib.Core.Option.{Option, none, some}
 use lib.ListN.{length}
 use lib.Dec.{eqb}
-use lib.IntN.{pos, _+ℤ_, _-ℤ_}
+use lib.IntN.{ℤ, pos, _+ℤ_, _-ℤ_}
 use lib.Signed.{leZ, _≤ℤ_, _<ℤ_}
 use Rattle.rules.specs.Order.{counted, count}
 use Rattle.rules.specs.Areas.{byte, packet, has, Grant, nobody, bestEffort, onTime, early, elem, distinct, asked, arrivalQuestions, arrivalAnswer}
@@ -85,14 +86,18 @@ pub record Unserved (before : List NotedTick) (d : NotedTick) (p : ℕ) (x : Pac
 abbrev pub NoneOnTime : List NotedTick → NotedTick → ℕ → Type 0
 NoneOnTime before d p = (x : Packet) → Unserved before d p x → d .met .clock <ℤ x .time
 
--- A waiting packet whose time has come makes the port send on time, and nothing less urgent; best-effort has the port exactly where it waits and nothing is on time;
--- else a packet within the horizon makes it send early, and none of a later time.
+-- Of two pairs of times, the first is earlier, or the same and the second no later.
+abbrev pub NoLater : ℤ × ℤ → ℤ × ℤ → Type 0
+NoLater (a, b) (d, e) = (a <ℤ d) ⊎ ((a ≡ d) × (b ≤ℤ e))
+
+-- A waiting packet whose time has come makes the port send on time, and none of a later deadline, or of the same and a later time; best-effort has the port exactly where it waits and
+-- nothing is on time; else a packet within the horizon makes it send early, and none of a later time, or of the same and a later deadline.
 pub record Prompt (before : List NotedTick) (d : NotedTick) (p : ℕ) : Type 0 where
-  pub on-time : (x : Packet) → Unserved before d p x → x .time ≤ℤ d .met .clock → (i : ℕ) × (y : Packet) × (d .report .grant p ≡ onTime (i, y)) × (y .deadline ≤ℤ x .deadline)
+  pub on-time : (x : Packet) → Unserved before d p x → x .time ≤ℤ d .met .clock → (i : ℕ) × (y : Packet) × (d .report .grant p ≡ onTime (i, y)) × NoLater (y .deadline, y .time) (x .deadline, x .time)
   pub best-effort : d .report .grant p ≡ bestEffort → (has (d .call .bestEffort) p ≡ true) × NoneOnTime before d p
   pub best-effort-if : has (d .call .bestEffort) p ≡ true → NoneOnTime before d p → d .report .grant p ≡ bestEffort
   pub early : has (d .call .bestEffort) p ≡ false → NoneOnTime before d p → (x : Packet) → Unserved before d p x → (x .time -ℤ d .met .clock) ≤ℤ pos (d .met .horizon p)
-      → (i : ℕ) × (y : Packet) × (d .report .grant p ≡ early (i, y)) × (y .time ≤ℤ x .time)
+      → (i : ℕ) × (y : Packet) × (d .report .grant p ≡ early (i, y)) × NoLater (y .time, y .deadline) (x .time, x .deadline)
 
 -- How many packets are still stored.
 unfoldable pub stored : (ℕ → Option Held) → ℕ

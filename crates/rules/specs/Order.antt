@@ -4,6 +4,8 @@ use mathlib.Core.Bool.{Bool, true, cond, not, _&&_, _||_}
 use mathlib.Core.List.{List, [], _∷_}
 use mathlib.Core.Option.{Option, none, some}
 use lib.Dec.{eqb}
+use lib.IntN.{ℤ}
+use lib.Signed.{ltZ}
 
 -- Whether the first of two goes before the second.
 abbrev pub Order : Type 0 → Type 0
@@ -17,17 +19,18 @@ by key less x y = less (key x) (key y)
 unfoldable pub then : {A : Type 0} → Order A → Order A → Order A
 then first second x y = first x y || (not (first y x) && second x y)
 
--- What the comparator sees of a packet: early or on time, and its key.
-pub record Key (K : Type 0) : Type 0 where
+-- What the comparator sees of a packet: early or on time, its key, and its second key, which decides among equal keys (document 02, [4]).
+pub record Key : Type 0 where
   pub early : Bool
-  pub key : K
+  pub key : ℤ
+  pub second : ℤ
 
--- Every on-time key precedes every early one; the smaller key wins.
+-- Every on-time key precedes every early one; the smaller key wins, and among equal keys the smaller second key.
 unfoldable pub onTimeFirst : Order Bool
 onTimeFirst x y = not x && y
 
-unfoldable pub comparator : {K : Type 0} → Order K → Order (Key K)
-comparator less = then (by (λ k. k .early) onTimeFirst) (by (λ k. k .key) less)
+unfoldable pub comparator : Order Key
+comparator = then (by (λ k. k .early) onTimeFirst) (then (by (λ k. k .key) ltZ) (by (λ k. k .second) ltZ))
 
 module _ {A : Type 0} (less : Order A) where
   -- `w` is the least so far, an index with its key; `x` is the key at i, if i has one.

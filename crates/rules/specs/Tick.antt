@@ -4,8 +4,8 @@ use mathlib.Core.Bool.{Bool, cond, not, _&&_}
 use mathlib.Core.List.{List}
 use mathlib.Core.Option.{Option, none, some}
 use lib.Seq.{sets}
-use lib.Dec.{leb, ltb, eqb}
-use lib.IntN.{pos, negℤ}
+use lib.Dec.{eqb}
+use lib.IntN.{ℤ, pos, negℤ}
 use lib.Signed.{ltZ, leZ}
 use Rattle.rules.specs.Clock.{plus, minus, offset}
 use Rattle.rules.specs.Order.{Key, comparator, least, count}
@@ -13,9 +13,9 @@ use Rattle.rules.specs.Areas.{Store, Outcome, packetLength, byte, bits, 
 use Rattle.rules.specs.Board.{Board, Horizon, Idle, Time, Deadline, Mask, Outgoing, Delay, Routes, clock, free}
 
 -- From the winner and its key, best-effort's wait and the horizon.
-unfoldable pub granted : Option (ℕ × Key ℕ) → Bool → ℕ → Grant ℕ
+unfoldable pub granted : Option (ℕ × Key) → Bool → ℕ → Grant ℕ
 granted none b h = cond b bestEffort nobody
-granted (some (i, k)) b h = cond (k .early) (cond b bestEffort (cond (leb (k .key) h) (early i) nobody)) (onTime i)
+granted (some (i, k)) b h = cond (k .early) (cond b bestEffort (cond (leZ (k .key) (pos h)) (early i) nobody)) (onTime i)
 
 -- What a port sends: a copy from memory.
 unfoldable pub grantBytes : List ℕ → Grant ℕ → List ℕ
@@ -56,20 +56,29 @@ module _ (B : Board) where
   arrived zero arriving area r = r
   arrived (suc p) arriving area r = let r′ = arrived p arriving area r in admitted r′ arriving p (packet area p)
 
-  -- Step 2, each port's choice. Slot i is early if its time's offset is above 0. Its key is deadline - t if it is on time, time - t if it is early.
+  -- Step 2, each port's choice. Slot i is early if its time's offset is above 0.
   abbrev pub isEarly : List ℕ → ℕ → Bool
   isEarly s i = ltZ (pos 0) (offset (bits c) (get s (Time, i)) (get s clock))
 
-  unfoldable pub slotKey : List ℕ → ℕ → Key ℕ
-  slotKey s i = record { early = isEarly s i; key = minus (bits c) (cond (isEarly s i) (get s (Time, i)) (get s (Deadline, i))) (get s clock) }
+  -- How far the time x is ahead of the clock, without sign.
+  abbrev pub ahead : List ℕ → ℕ → ℤ
+  ahead s x = pos (minus (bits c) x (get s clock))
+
+  -- On time, the key is deadline - t, and the second key the time's offset; early, the key is time - t, and the second key deadline - t.
+  unfoldable pub slotKey : List ℕ → ℕ → Key
+  slotKey s i =
+      let e = isEarly s i in
+      let u = get s (Time, i) in
+      let d = get s (Deadline, i) in
+      record { early = e; key = ahead s (cond e u d); second = cond e (ahead s d) (offset (bits c) u (get s clock)) }
 
   -- Each port looks at the slots whose mask has it.
-  unfoldable pub candidate : List ℕ → ℕ → ℕ → Option (Key ℕ)
+  unfoldable pub candidate : List ℕ → ℕ → ℕ → Option Key
   candidate s p i = cond (has (get s (Mask, i)) p) (some (slotKey s i)) none
 
-  -- The least by the comparator wins, equal keys go to the lower slot.
+  -- The least by the comparator wins; where both keys are equal, the lower slot.
   unfoldable pub grant : List ℕ → ℕ → ℕ → Grant ℕ
-  grant s waiting p = granted (least (comparator ltb) (candidate s p) 256) (has waiting p) (get s (Horizon, p))
+  grant s waiting p = granted (least comparator (candidate s p) 256) (has waiting p) (get s (Horizon, p))
 
   -- Step 3, the port leaves the mask of the slot that it sent.
   abbrev pub leave : ℕ → ℕ → List ℕ → List ℕ

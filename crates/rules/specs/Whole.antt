@@ -88,18 +88,18 @@ unfoldable pub toServe : Option Held → ℕ → Option Packet
 toServe none p = none
 toServe (some x) p = cond (has (x .left) p) (some (x .packet)) none
 
--- What the comparator sees of a packet at the clock T: on-time packets go by their deadlines, early ones by their times.
-abbrev pub packetKey : ℤ → Packet → Key ℤ
-packetKey T x = record { early = ltZ T (x .time); key = cond (ltZ T (x .time)) (x .time) (x .deadline) }
+-- What the comparator sees of a packet at the clock T: on-time packets go by their deadlines, then their times; early ones by their times, then their deadlines.
+abbrev pub packetKey : ℤ → Packet → Key
+packetKey T x = let e = ltZ T (x .time) in record { early = e; key = cond e (x .time) (x .deadline); second = cond e (x .deadline) (x .time) }
 
 -- From the winner, best-effort's wait, the clock and the horizon.
 unfoldable pub granted : Option (ℕ × Packet) → Bool → ℤ → ℕ → Grant (ℕ × Packet)
 granted none b T h = cond b bestEffort nobody
 granted (some w) b T h = cond (ltZ T (w .1 .time)) (cond b bestEffort (cond (leZ (w .1 .time -ℤ T) (pos h)) (early w) nobody)) (onTime w)
 
--- The least by the comparator wins, equal keys go to the lower place.
+-- The least by the comparator wins; where both keys are equal, the lower place.
 unfoldable pub grant : Router → ℕ → ℕ → Grant (ℕ × Packet)
-grant r b p = granted (least (by (packetKey (r .clock)) (comparator ltZ)) (λ i. toServe (r .place i) p) 256) (has b p) (r .clock) (r .horizon p)
+grant r b p = granted (least (by (packetKey (r .clock)) comparator) (λ i. toServe (r .place i) p) 256) (has b p) (r .clock) (r .horizon p)
 
 unfoldable pub lose : ℕ → Option Held → Option Held
 lose p none = none

@@ -1,4 +1,4 @@
--- `engine::key` meets its contract: a rank has the key in its second byte. Assumes nothing.
+-- `engine::key` meets its contract: a rank has the key in its third digit. Assumes nothing.
 use native.Mathlib.Omega.{arith}
 use Rattle.engine.proofs.Headings.{rank-key}
 use borrow.Author.Needs.{needs}
