@@ -22,7 +22,7 @@ use Rattle.rules.proofs.Relation.{SlotShows, Rel}
 use Rattle.rules.proofs.Board8Laws.{lawful8}
 use Rattle.rules.proofs.Agreement.{Agree}
 use Rattle.cases.specs.Shorthand.{nines, lent}
-use Rattle.cases.specs.Rows.{Candidate, Seen, Row, expected, listed, before, outcome, arrived, whole, sameBytes, fateOf, candidateOnBytes, onBytes, beforeWhole, arrivedWhole, onWhole}
+use Rattle.cases.specs.Rows.{Candidate, Seen, Row, expectedOnBytes, expectedOnWhole, listed, before, outcome, arrived, sameBytes, fateOf, candidateOnBytes, onBytes, beforeWhole, arrivedWhole, onWhole}
 use Rattle.cases.specs.Table.{AllMeet}
 use Rattle.cases.proofs.Proper.{isProper, proper}
 use Rattle.cases.proofs.Reached.{met, ended, arrived-related}
@@ -36,11 +36,12 @@ listed-same f g (suc n) e = rw (listed-same f g n (λ i l. e i (omega arith)), e
 abbrev by-fields : ℕ → ℕ → List ℕ → ℕ → ℕ → ℕ → ℕ → List ℕ → Option Candidate
 by-fields t i out m v D m′ k =
     let o = offset (bits 1) v t in
+    let e = ltZ (pos 0) o in
     cond (has m 0)
     (some (record {
       slot = i;
       bytes = k;
-      key = whole (record { early = ltZ (pos 0) o; key = minus (bits 1) (cond (ltZ (pos 0) o) v D) t });
+      key = record { early = e; key = pos (minus (bits 1) (cond e v D) t); second = cond e (pos (minus (bits 1) D t)) o };
       fate = fateOf (has m′ 0) (sameBytes k out);
     })) none
 
@@ -103,7 +104,7 @@ runnable [] = true
 runnable (r ∷ rs) = ltb (r .from) 256 && (isProper 1 (start (r .from)) (r .earlier ++ (lent (r .tick) ∷ [])) && (eqb (refusal 1 (beforeWhole r) (lent (r .tick))) 0 && runnable rs))
 
 -- Rows are met where the router that never turns over shows them: by what it does, and by what its times cut to a byte make of it.
-pub all-meet : (rs : List Row) → runnable rs ≡ true → map by-router rs ≡ map expected rs → map onWhole rs ≡ map expected rs → AllMeet rs
+pub all-meet : (rs : List Row) → runnable rs ≡ true → map by-router rs ≡ map expectedOnBytes rs → map onWhole rs ≡ map expectedOnWhole rs → AllMeet rs
 unfolding runnable AllMeet
 all-meet [] e b w = tt
 all-meet (r ∷ rs) e b w =

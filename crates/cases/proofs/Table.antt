@@ -11,7 +11,7 @@ use Rattle.cases.proofs.Rows.{all-meet}
 
 -- What is seen of the rows unfolds where this one does.
 seeing : ℕ
-unfolding computing R.listed R.expected R.whole R.sameBytes R.fateOf R.beforeWhole R.arrivedWhole R.reported R.candidateOnWhole R.onWhole Q.ports-left Q.by-places Q.by-router Q.runnable
+unfolding computing R.listed R.expectedOnBytes R.expectedOnWhole R.sameBytes R.fateOf R.beforeWhole R.arrivedWhole R.reported R.candidateOnWhole R.onWhole Q.ports-left Q.by-places Q.by-router Q.runnable
     S.table S.horizon96 S.horizon95 S.time210 S.time200 S.time199 S.time111 S.time112 S.time112-d127 S.time113-d127 S.time240-sent S.time240-withdrawn S.tieOnTime S.tieEarly
 seeing = 0
 

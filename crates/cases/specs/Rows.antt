@@ -1,19 +1,19 @@
--- A case of document 01 ("Cases") as a row: calls up to a tick at t = 240, and what has to be seen of that tick; and what is seen of it at either router. Assumes nothing.
+-- A case of document 01 ("Cases") as a row: calls up to a tick, and what has to be seen of that tick; and what is seen of it at either router. Assumes nothing.
 use Prim.Native.Nat.{ℕ, zero, suc}
 use mathlib.Core.Bool.{Bool, true, false, cond, _&&_}
 use mathlib.Core.List.{List, [], _∷_, _++_}
 use mathlib.Core.Option.{Option, none, some}
 use lib.Dec.{ltb, eqb}
 use lib.IntN.{ℤ, pos, _-ℤ_}
-use lib.Signed.{ltZ}
-use Rattle.rules.specs.Areas.{Store, Reply, packet, has, Outcome}
+use Rattle.rules.specs.Clock.{cut}
+use Rattle.rules.specs.Areas.{Store, Reply, bits, packet, has, Outcome}
 use Rattle.rules.specs.Order.{Key}
 use Rattle.rules.specs.Board.{Mask, clock, board8}
 use Rattle.rules.specs.Tick as Bytes
 use Rattle.rules.specs.Questions as Entry
 use Rattle.rules.specs.Questions.{fresh}
 use Rattle.rules.specs.Whole as Whole
-use Rattle.rules.specs.Whole.{Router, Packet, TickCall, Report, start, toServe, packetBytes}
+use Rattle.rules.specs.Whole.{Router, Packet, TickCall, Report, start, toServe, packetKey, packetBytes}
 use Rattle.rules.specs.Calls.{Call, wholeStep, afterAll}
 use Rattle.rules.specs.Account.{isSent, times}
 use Rattle.rules.specs.Demand3.{byteStep}
@@ -27,11 +27,11 @@ pub data Fate : Type 0 where
   withdrawn : Fate
   left : Fate
 
--- A packet that waits for port 0 once the arrivals are stored: its slot, the bytes that it goes out with (its deadline is the second), its key, on time or early, and its fate in this tick.
+-- A packet that waits for port 0 once the arrivals are stored: its slot, the bytes that it goes out with (its deadline is the second), what the comparator sees of it, both keys counted from the clock, and its fate in this tick.
 pub record Candidate : Type 0 where
   pub slot : ℕ
   pub bytes : List ℕ
-  pub key : Key ℤ
+  pub key : Key
   pub fate : Fate
 
 -- What is seen of a tick: the clock that it meets, its reply in full, and every packet that waits for port 0, by slot.
@@ -40,16 +40,21 @@ pub record Seen : Type 0 where
   pub reply : Reply
   pub candidates : List Candidate
 
--- A router fresh at the clock reading `from`, the calls up to t = 240, the tick, and what has to be seen of it.
+-- A router fresh at the clock reading `from`, the calls up to the tick, the clock T that it meets, the tick, and what has to be seen of it.
 pub record Row : Type 0 where
   pub from : ℕ
   pub earlier : List Call
+  pub clock : ℤ
   pub tick : TickCall
   pub reply : Reply
   pub candidates : List Candidate
 
-unfoldable pub expected : Row → Seen
-expected r = record { clock = pos 240; reply = r .reply; candidates = r .candidates }
+-- What has to be seen at the router over bytes, whose clock is T cut to a byte, and at the router that never turns over.
+unfoldable pub expectedOnBytes : Row → Seen
+expectedOnBytes r = record { clock = pos (cut (bits 1) (r .clock)); reply = r .reply; candidates = r .candidates }
+
+unfoldable pub expectedOnWhole : Row → Seen
+expectedOnWhole r = record { clock = r .clock; reply = r .reply; candidates = r .candidates }
 
 -- What f gives for the slots below n, in order.
 unfoldable pub listed : (ℕ → Option Candidate) → ℕ → List Candidate
@@ -74,10 +79,6 @@ outcome r = let k = r .tick in Entry.tick board8 (before r) (k .arriving) (k .be
 unfoldable pub arrived : Row → Store
 arrived r = let k = r .tick in Bytes.arrived board8 5 (k .arriving) (k .arrivals) (before r)
 
--- A key as a whole number.
-unfoldable pub whole : Key ℕ → Key ℤ
-whole k = record { early = k .early; key = pos (k .key) }
-
 unfoldable pub sameBytes : List ℕ → List ℕ → Bool
 sameBytes [] [] = true
 sameBytes [] (y ∷ ys) = false
@@ -97,7 +98,7 @@ candidateOnBytes r i =
     (some (record {
       slot = i;
       bytes = k;
-      key = whole (Bytes.slotKey board8 s i);
+      key = Bytes.slotKey board8 s i;
       fate = fateOf (has (board8 .get (o .after .state) (Mask, i)) 0) (sameBytes k (packet (o .reply .outgoing) 0));
     })) none
 
@@ -122,12 +123,15 @@ candidateOnWhole r i = go (toServe (arrivedWhole r .place i) 0)
     T : ℤ
     T = beforeWhole r .clock
 
+    lessClock : Key → Key
+    lessClock k = record { early = k .early; key = k .key -ℤ T; second = k .second -ℤ T }
+
     go : Option Packet → Option Candidate
     go none = none
     go (some x) = some (record {
       slot = i;
       bytes = packetBytes 1 x;
-      key = record { early = ltZ T (x .time); key = cond (ltZ T (x .time)) (x .time) (x .deadline) -ℤ T };
+      key = lessClock (packetKey T x);
       fate = reported (Whole.ticked 1 (beforeWhole r) (r .tick) .report) x;
     })
 

@@ -4,9 +4,10 @@ use mathlib.Core.Path.{_≡_}
 use mathlib.Core.Bool.{true, false}
 use mathlib.Core.List.{List, [], _∷_, _++_, List·Memᴰ}
 use lib.ListN.{replicate}
-use lib.IntN.{ℤ, pos}
+use lib.IntN.{ℤ, pos, negℤ}
+use Rattle.rules.specs.Clock.{cut}
 use Rattle.rules.specs.Order.{counted}
-use Rattle.rules.specs.Areas.{Reply, noPacket, packet, has}
+use Rattle.rules.specs.Areas.{Reply, bits, noPacket, packet, has}
 use Rattle.rules.specs.Board.{board8}
 use Rattle.rules.specs.Questions.{fresh}
 use Rattle.rules.specs.Whole.{Packet, start, packetBytes}
@@ -14,7 +15,7 @@ use Rattle.rules.specs.Calls.{Call, control, Proper}
 use Rattle.rules.specs.Account.{NotedTick, Accepted, isSent, times}
 use Rattle.rules.specs.Demand3.{history}
 use Rattle.cases.specs.Shorthand.{connect, packetWith, five, ticking, lent, ticked}
-use Rattle.cases.specs.Rows.{Fate, sent, withdrawn, left, Candidate, Row, expected, onBytes, onWhole}
+use Rattle.cases.specs.Rows.{Fate, sent, withdrawn, left, Candidate, Row, expectedOnBytes, expectedOnWhole, onBytes, onWhole}
 
 -- ---- what is seen
 
@@ -38,12 +39,12 @@ stored = 1 ∷ replicate 4 0
 abbrev pub refused : ℕ → List ℕ
 refused q = q ∷ replicate 4 0
 
--- The packet k in a slot, its key, and its fate.
-abbrev pub isOnTime : ℕ → List ℕ → ℕ → Fate → Candidate
-isOnTime i k key f = record { slot = i; bytes = k; key = record { early = false; key = pos key }; fate = f }
+-- The packet k in a slot, its keys, and its fate: on time, deadline - t, and how many ticks ago its time was; early, time - t, and deadline - t.
+abbrev pub isOnTime : ℕ → List ℕ → ℕ → ℕ → Fate → Candidate
+isOnTime i k key ago f = record { slot = i; bytes = k; key = record { early = false; key = pos key; second = negℤ (pos ago) }; fate = f }
 
-abbrev pub isEarly : ℕ → List ℕ → ℕ → Fate → Candidate
-isEarly i k key f = record { slot = i; bytes = k; key = record { early = true; key = pos key }; fate = f }
+abbrev pub isEarly : ℕ → List ℕ → ℕ → ℕ → Fate → Candidate
+isEarly i k key due f = record { slot = i; bytes = k; key = record { early = true; key = pos key; second = pos due }; fate = f }
 
 -- ---- one packet
 
@@ -63,29 +64,29 @@ pub record Arriving : Type 0 where
   pub u : ℤ
 
 abbrev pub case : Arriving → Reply → List Candidate → Row
-case a reply candidates = record { from = 240; earlier = opened (a .d) (a .horizon); tick = ticking 1 0 (packetWith 1 5 (a .time) ++ replicate 80 0) (a .u ∷ []); reply = reply; candidates = candidates }
+case a reply candidates = record { from = 240; earlier = opened (a .d) (a .horizon); clock = pos 240; tick = ticking 1 0 (packetWith 1 5 (a .time) ++ replicate 80 0) (a .u ∷ []); reply = reply; candidates = candidates }
 
 -- "time 80: early, key 96. Sent at horizon 96, not at 95."
 unfoldable pub horizon96 : Row
-horizon96 = case (record { d = 40; horizon = 96; time = 80; u = pos 336 }) (sendsEarly (as33 120) stored) (isEarly 0 (as33 120) 96 sent ∷ [])
+horizon96 = case (record { d = 40; horizon = 96; time = 80; u = pos 336 }) (sendsEarly (as33 120) stored) (isEarly 0 (as33 120) 96 136 sent ∷ [])
 
 unfoldable pub horizon95 : Row
-horizon95 = case (record { d = 40; horizon = 95; time = 80; u = pos 336 }) (idle stored) (isEarly 0 (as33 120) 96 left ∷ [])
+horizon95 = case (record { d = 40; horizon = 95; time = 80; u = pos 336 }) (idle stored) (isEarly 0 (as33 120) 96 136 left ∷ [])
 
 -- "time 210: on time, deadline 250, key 10."
 unfoldable pub time210 : Row
-time210 = case (record { d = 40; horizon = 0; time = 210; u = pos 210 }) (sendsOnTime (as33 250) stored) (isOnTime 0 (as33 250) 10 sent ∷ [])
+time210 = case (record { d = 40; horizon = 0; time = 210; u = pos 210 }) (sendsOnTime (as33 250) stored) (isOnTime 0 (as33 250) 10 30 sent ∷ [])
 
 -- "time 200: accepted, key 0. time 199: 7."
 unfoldable pub time200 : Row
-time200 = case (record { d = 40; horizon = 0; time = 200; u = pos 200 }) (sendsOnTime (as33 240) stored) (isOnTime 0 (as33 240) 0 sent ∷ [])
+time200 = case (record { d = 40; horizon = 0; time = 200; u = pos 200 }) (sendsOnTime (as33 240) stored) (isOnTime 0 (as33 240) 0 40 sent ∷ [])
 
 unfoldable pub time199 : Row
 time199 = case (record { d = 40; horizon = 0; time = 199; u = pos 199 }) (idle (refused 7)) []
 
 -- "time 111: early, key 127. time 112: 7, also at d = 127. time 113, d = 127: accepted, key 0."
 unfoldable pub time111 : Row
-time111 = case (record { d = 40; horizon = 0; time = 111; u = pos 367 }) (idle stored) (isEarly 0 (as33 151) 127 left ∷ [])
+time111 = case (record { d = 40; horizon = 0; time = 111; u = pos 367 }) (idle stored) (isEarly 0 (as33 151) 127 167 left ∷ [])
 
 unfoldable pub time112 : Row
 time112 = case (record { d = 40; horizon = 0; time = 112; u = pos 112 }) (idle (refused 7)) []
@@ -94,11 +95,11 @@ unfoldable pub time112-d127 : Row
 time112-d127 = case (record { d = 127; horizon = 0; time = 112; u = pos 112 }) (idle (refused 7)) []
 
 unfoldable pub time113-d127 : Row
-time113-d127 = case (record { d = 127; horizon = 0; time = 113; u = pos 113 }) (sendsOnTime (as33 240) stored) (isOnTime 0 (as33 240) 0 sent ∷ [])
+time113-d127 = case (record { d = 127; horizon = 0; time = 113; u = pos 113 }) (sendsOnTime (as33 240) stored) (isOnTime 0 (as33 240) 0 127 sent ∷ [])
 
 -- "time 240, d = 0: sent in this tick or withdrawn in it": sent.
 unfoldable pub time240-sent : Row
-time240-sent = case (record { d = 0; horizon = 0; time = 240; u = pos 240 }) (sendsOnTime (as33 240) stored) (isOnTime 0 (as33 240) 0 sent ∷ [])
+time240-sent = case (record { d = 0; horizon = 0; time = 240; u = pos 240 }) (sendsOnTime (as33 240) stored) (isOnTime 0 (as33 240) 0 0 sent ∷ [])
 
 -- ---- two packets for port 0
 
@@ -111,28 +112,39 @@ unfoldable pub time240-withdrawn : Row
 time240-withdrawn = record {
   from = 240;
   earlier = opened 0 0;
+  clock = pos 240;
   tick = ticking 3 0 (packetWith 1 5 240 ++ packetWith 101 5 240 ++ replicate 60 0) (pos 240 ∷ pos 240 ∷ []);
   reply = says 1 (as33 240) (1 ∷ 1 ∷ replicate 3 0) 1;
-  candidates = isOnTime 0 (as33 240) 0 sent ∷ isOnTime 1 (other33 240) 0 withdrawn ∷ [];
+  candidates = isOnTime 0 (as33 240) 0 0 sent ∷ isOnTime 1 (other33 240) 0 0 withdrawn ∷ [];
 }
 
--- Ten packets arrive, at t = 239 for slots 0 to 4 and at t = 240 for slots 5 to 9. Those of slots 2 and 9 are for port 0, of connections 7 (d = 10, goes out as 35) and 5 (d = 40);
--- the others are of connection 6, early and for port 1, whose horizon is 0.
+-- ---- equal keys in slots 9 and 2
+
+-- A packet: the delay of its connection, the byte in its header, and its true time.
+pub record Timed : Type 0 where
+  pub d : ℕ
+  pub time : ℕ
+  pub u : ℤ
+
+-- Ten packets arrive, in the tick at `from` for slots 0 to 4, and in the row's tick, the next, for slots 5 to 9. Those of slots 2 and 9 are for port 0, of connections 7 (goes out as 35) and 5;
+-- at `from` that of slot 2 is early, beyond the horizon. The others are of connection 6, early in both ticks, and for port 1, whose horizon is 0.
 pub record Tied : Type 0 where
+  pub from : ℕ
   pub horizon : ℕ
-  pub time2 : ℕ
-  pub u2 : ℤ
-  pub time9 : ℕ
-  pub u9 : ℤ
+  pub slot2 : Timed
+  pub slot9 : Timed
 
 abbrev pub tie : Tied → Reply → List Candidate → Row
 tie a reply candidates =
-    let k = packetWith 1 6 250 in
-    let v = pos 250 in
+    let v = pos (a .from + 11) in
+    let k = packetWith 1 6 (cut (bits 1) v) in
+    let two = a .slot2 in
+    let nine = a .slot9 in
     record {
-      from = 239;
-      earlier = connect 6 34 40 2 (connect 7 35 10 1 (opened 40 (a .horizon))) ++ (lent (ticking 31 0 (five k k (packetWith 1 7 (a .time2)) k k) (v ∷ v ∷ a .u2 ∷ v ∷ v ∷ [])) ∷ []);
-      tick = ticking 31 0 (five k k k k (packetWith 101 5 (a .time9))) (v ∷ v ∷ v ∷ v ∷ a .u9 ∷ []);
+      from = a .from;
+      earlier = connect 6 34 40 2 (connect 7 35 (two .d) 1 (opened (nine .d) (a .horizon))) ++ (lent (ticking 31 0 (five k k (packetWith 1 7 (two .time)) k k) (v ∷ v ∷ two .u ∷ v ∷ v ∷ [])) ∷ []);
+      clock = pos (a .from + 1);
+      tick = ticking 31 0 (five k k k k (packetWith 101 5 (nine .time))) (v ∷ v ∷ v ∷ v ∷ nine .u ∷ []);
       reply = reply;
       candidates = candidates;
     }
@@ -141,12 +153,16 @@ tie a reply candidates =
 abbrev pub as35 : ℕ → List ℕ
 as35 D = packetWith 1 35 D
 
--- "equal keys in slots 9 and 2: slot 2": on time, with one deadline, and early, with one time.
+-- "equal keys in slots 9 and 2: slot 2", where both packets have one time and one deadline: on time, and early.
 unfoldable pub tieOnTime : Row
-tieOnTime = tie (record { horizon = 0; time2 = 240; u2 = pos 240; time9 = 210; u9 = pos 210 }) (sendsOnTime (as35 250) (replicate 5 1)) (isOnTime 2 (as35 250) 10 sent ∷ isOnTime 9 (other33 250) 10 left ∷ [])
+tieOnTime =
+    tie (record { from = 239; horizon = 0; slot2 = record { d = 10; time = 240; u = pos 240 }; slot9 = record { d = 10; time = 240; u = pos 240 } })
+    (sendsOnTime (as35 250) (replicate 5 1)) (isOnTime 2 (as35 250) 10 0 sent ∷ isOnTime 9 (other33 250) 10 0 left ∷ [])
 
 unfoldable pub tieEarly : Row
-tieEarly = tie (record { horizon = 96; time2 = 80; u2 = pos 336; time9 = 80; u9 = pos 336 }) (sendsEarly (as35 90) (replicate 5 1)) (isEarly 2 (as35 90) 96 sent ∷ isEarly 9 (other33 120) 96 left ∷ [])
+tieEarly =
+    tie (record { from = 239; horizon = 96; slot2 = record { d = 40; time = 80; u = pos 336 }; slot9 = record { d = 40; time = 80; u = pos 336 } })
+    (sendsEarly (as35 120) (replicate 5 1)) (isEarly 2 (as35 120) 96 136 sent ∷ isEarly 9 (other33 120) 96 136 left ∷ [])
 
 -- ---- the table
 
@@ -155,8 +171,8 @@ table = horizon96 ∷ horizon95 ∷ time210 ∷ time200 ∷ time199 ∷ time111 
 
 -- What has to be seen is seen at both routers, and the calls are proper: their times are true.
 pub record Meets (r : Row) : Type 0 where
-  pub bytes : onBytes r ≡ expected r
-  pub whole : onWhole r ≡ expected r
+  pub bytes : onBytes r ≡ expectedOnBytes r
+  pub whole : onWhole r ≡ expectedOnWhole r
   pub proper : Proper 1 (start (r .from)) (r .earlier ++ (lent (r .tick) ∷ []))
 
 unfoldable pub AllMeet : List Row → Type 0
