@@ -1,4 +1,4 @@
--- The cases marked P hold: the whole table by computation at the router that never turns over. Assumes nothing.
+-- The cases marked P and the ties hold: the whole table by computation at the router that never turns over. Assumes nothing.
 use Prim.Native.Nat.{ℕ}
 use mathlib.Core.Path.{refl}
 use Rattle.cases.specs.Rows as R
@@ -13,6 +13,7 @@ use Rattle.cases.proofs.Rows.{all-meet}
 seeing : ℕ
 unfolding computing R.listed R.expectedOnBytes R.expectedOnWhole R.sameBytes R.fateOf R.beforeWhole R.arrivedWhole R.reported R.candidateOnWhole R.onWhole Q.ports-left Q.by-places Q.by-router Q.runnable
     S.table S.horizon96 S.horizon95 S.time210 S.time200 S.time199 S.time111 S.time112 S.time112-d127 S.time113-d127 S.time240-sent S.time240-withdrawn S.tieOnTime S.tieEarly
+    S.timeDecides S.timeDecides-after-turn S.deadlineDecides-past-127 S.deadlineDecides-across-turn S.deadlineDecides-after-turn
 seeing = 0
 
 rows : AllMeet S.table

@@ -27,7 +27,8 @@ pub data Fate : Type 0 where
   withdrawn : Fate
   left : Fate
 
--- A packet that waits for port 0 once the arrivals are stored: its slot, the bytes that it goes out with (its deadline is the second), what the comparator sees of it, both keys counted from the clock, and its fate in this tick.
+-- A packet that waits for port 0 once the arrivals are stored: its slot, the bytes that it goes out with (its deadline is the second), what the comparator sees of it, its keys counted from the clock,
+-- and its fate in this tick.
 pub record Candidate : Type 0 where
   pub slot : ℕ
   pub bytes : List ℕ

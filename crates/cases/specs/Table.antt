@@ -1,4 +1,4 @@
--- The cases marked P of document 01 ("Cases") in one table, and the claim about them. Assumes nothing.
+-- The cases marked P of document 01 ("Cases") and the ties of document 02, [4], in one table, and the claim about them. Assumes nothing.
 use Prim.Native.Nat.{ℕ, _+_, _<_}
 use mathlib.Core.Path.{_≡_}
 use mathlib.Core.Bool.{true, false}
@@ -64,7 +64,14 @@ pub record Arriving : Type 0 where
   pub u : ℤ
 
 abbrev pub case : Arriving → Reply → List Candidate → Row
-case a reply candidates = record { from = 240; earlier = opened (a .d) (a .horizon); clock = pos 240; tick = ticking 1 0 (packetWith 1 5 (a .time) ++ replicate 80 0) (a .u ∷ []); reply = reply; candidates = candidates }
+case a reply candidates = record {
+  from = 240;
+  earlier = opened (a .d) (a .horizon);
+  clock = pos 240;
+  tick = ticking 1 0 (packetWith 1 5 (a .time) ++ replicate 80 0) (a .u ∷ []);
+  reply = reply;
+  candidates = candidates;
+}
 
 -- "time 80: early, key 96. Sent at horizon 96, not at 95."
 unfoldable pub horizon96 : Row
@@ -164,10 +171,44 @@ tieEarly =
     tie (record { from = 239; horizon = 96; slot2 = record { d = 40; time = 80; u = pos 336 }; slot9 = record { d = 40; time = 80; u = pos 336 } })
     (sendsEarly (as35 120) (replicate 5 1)) (isEarly 2 (as35 120) 96 136 sent ∷ isEarly 9 (other33 120) 96 136 left ∷ [])
 
+-- Among equal on-time keys the earlier time goes first (document 02, [4]): slot 9's, 30 ticks ago. The slot alone would choose slot 2, and so would the time's offset without sign, 226 and 0.
+unfoldable pub timeDecides : Row
+timeDecides =
+    tie (record { from = 239; horizon = 0; slot2 = record { d = 10; time = 240; u = pos 240 }; slot9 = record { d = 40; time = 210; u = pos 210 } })
+    (sendsOnTime (other33 250) (replicate 5 1)) (isOnTime 2 (as35 250) 10 0 left ∷ isOnTime 9 (other33 250) 10 30 sent ∷ [])
+
+-- The same after the clock's turn, at t = 0: the plain bytes, 246 in slot 9 and 0 in slot 2, would choose slot 2.
+unfoldable pub timeDecides-after-turn : Row
+timeDecides-after-turn =
+    tie (record { from = 255; horizon = 0; slot2 = record { d = 10; time = 0; u = pos 256 }; slot9 = record { d = 20; time = 246; u = pos 246 } })
+    (sendsOnTime (other33 10) (replicate 5 1)) (isOnTime 2 (as35 10) 10 0 left ∷ isOnTime 9 (other33 10) 10 10 sent ∷ [])
+
+-- Among equal early keys the earlier deadline goes first (document 02, [4]): slot 9's, at t + 106. The slot alone would choose slot 2, and so would the deadlines' offsets with sign:
+-- slot 2's deadline is at t + 136, past t + 127, and its offset -120.
+unfoldable pub deadlineDecides-past-127 : Row
+deadlineDecides-past-127 =
+    tie (record { from = 239; horizon = 96; slot2 = record { d = 40; time = 80; u = pos 336 }; slot9 = record { d = 10; time = 80; u = pos 336 } })
+    (sendsEarly (other33 90) (replicate 5 1)) (isEarly 2 (as35 120) 96 136 left ∷ isEarly 9 (other33 90) 96 106 sent ∷ [])
+
+-- Deadlines on both sides of the clock's turn: the plain bytes, 251 in slot 9 and 25 in slot 2, would choose slot 2.
+unfoldable pub deadlineDecides-across-turn : Row
+deadlineDecides-across-turn =
+    tie (record { from = 239; horizon = 1; slot2 = record { d = 40; time = 241; u = pos 241 }; slot9 = record { d = 10; time = 241; u = pos 241 } })
+    (sendsEarly (other33 251) (replicate 5 1)) (isEarly 2 (as35 25) 1 41 left ∷ isEarly 9 (other33 251) 1 11 sent ∷ [])
+
+-- After the clock's turn, at t = 0, both deadlines past t + 127, with the offsets -128 in slot 9 and -33 in slot 2: an order that treats -128 as 128 would choose slot 2,
+-- and so would one that takes all deadlines past t + 127 for the same.
+unfoldable pub deadlineDecides-after-turn : Row
+deadlineDecides-after-turn =
+    tie (record { from = 255; horizon = 96; slot2 = record { d = 127; time = 96; u = pos 352 }; slot9 = record { d = 32; time = 96; u = pos 352 } })
+    (sendsEarly (other33 128) (replicate 5 1)) (isEarly 2 (as35 223) 96 223 left ∷ isEarly 9 (other33 128) 96 128 sent ∷ [])
+
 -- ---- the table
 
 unfoldable pub table : List Row
-table = horizon96 ∷ horizon95 ∷ time210 ∷ time200 ∷ time199 ∷ time111 ∷ time112 ∷ time112-d127 ∷ time113-d127 ∷ time240-sent ∷ time240-withdrawn ∷ tieOnTime ∷ tieEarly ∷ []
+table =
+    horizon96 ∷ horizon95 ∷ time210 ∷ time200 ∷ time199 ∷ time111 ∷ time112 ∷ time112-d127 ∷ time113-d127 ∷ time240-sent ∷ time240-withdrawn
+    ∷ tieOnTime ∷ tieEarly ∷ timeDecides ∷ timeDecides-after-turn ∷ deadlineDecides-past-127 ∷ deadlineDecides-across-turn ∷ deadlineDecides-after-turn ∷ []
 
 -- What has to be seen is seen at both routers, and the calls are proper: their times are true.
 pub record Meets (r : Row) : Type 0 where
@@ -191,6 +232,6 @@ unfoldable pub NoThird : Type 0
 NoThird = (t : ℕ) → t < 256 → (ks : List Call) → Proper 1 (start t) ks → let h = history board8 (fresh board8 t) (start t) ks in
     (x : Packet) → Accepted h x → x .deadline ≡ x .arrived → (d : NotedTick) → List·Memᴰ d h → d .met .clock ≡ x .arrived → (p : ℕ) → p < 5 → SentOrWithdrawn d x p
 
--- Every case marked P.
+-- Every case marked P, and the ties.
 unfoldable pub Cases : Type 0
 Cases = AllMeet table × NoThird
