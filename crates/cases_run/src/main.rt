@@ -189,17 +189,29 @@ fn nth(first: u8, n: u8) -> u8 {
     std::num::wrapping_add_u8(first, n)
 }
 
-// A tick with five arrivals of one time.
-fn tick_five(state: &mut [u8], memory: &mut [u8], ids: [u8; Router::PORTS], time: u8, first: u8) {
-    let mut arrivals = [0u8; Router::ARRIVALS];
+// Five arrivals of one time.
+fn put_five(area: &mut [u8], ids: [u8; Router::PORTS], time: u8, first: u8)
+    requires { ⌜ length (now area) ≡ outgoingLength ⌝ }
+{
+    put_packet(area, 0, ids[0], time, first);
+    put_packet(area, 1, ids[1], time, nth(first, 1));
+    put_packet(area, 2, ids[2], time, nth(first, 2));
+    put_packet(area, 3, ids[3], time, nth(first, 3));
+    put_packet(area, 4, ids[4], time, nth(first, 4));
+}
+
+// A tick with five arrivals, which isn't compared.
+fn tick_unseen(state: &mut [u8], memory: &mut [u8], arrivals: &[u8]) {
     let mut outgoing = [0u8; Router::OUTGOING];
     let mut answers = [0u8; Router::ANSWERS];
-    put_packet(&mut arrivals, 0, ids[0], time, first);
-    put_packet(&mut arrivals, 1, ids[1], time, nth(first, 1));
-    put_packet(&mut arrivals, 2, ids[2], time, nth(first, 2));
-    put_packet(&mut arrivals, 3, ids[3], time, nth(first, 3));
-    put_packet(&mut arrivals, 4, ids[4], time, nth(first, 4));
-    router::router_tick(state, memory, &arrivals, &mut outgoing, &mut answers, 31, 0);
+    router::router_tick(state, memory, arrivals, &mut outgoing, &mut answers, 31, 0);
+}
+
+// The same, all of one time.
+fn tick_five(state: &mut [u8], memory: &mut [u8], ids: [u8; Router::PORTS], time: u8, first: u8) {
+    let mut arrivals = [0u8; Router::ARRIVALS];
+    put_five(&mut arrivals, ids, time, first);
+    tick_unseen(state, memory, &arrivals);
 }
 
 // Connections 1 and 2 have one delay and port 0, connection 3 has port 4.
@@ -239,7 +251,7 @@ fn equal_keys(state: &mut [u8], memory: &mut [u8]) {
     tick_ten(
         state,
         memory,
-        b"equal keys in slots 9 and 2, first",
+        b"one time and one deadline in slots 9 and 2, first",
         2,
         3,
         1,
@@ -247,11 +259,83 @@ fn equal_keys(state: &mut [u8], memory: &mut [u8]) {
     tick_ten(
         state,
         memory,
-        b"equal keys in slots 9 and 2, next",
+        b"one time and one deadline in slots 9 and 2, next",
         9,
         10,
         2,
     );
+}
+
+// A fresh router with connections 5 and 7 to port 0, as 33 and 35, each with its delay, and 6 to port 1.
+fn connect_tied(
+    state: &mut [u8],
+    memory: &mut [u8],
+    clock: u8,
+    horizon: u8,
+    delay7: u8,
+    delay5: u8,
+) {
+    prepare(state, memory, clock, delay5, horizon);
+    connect(state, memory, 6, 34, 40, 2);
+    connect(state, memory, 7, 35, delay7, 1);
+}
+
+// The tick at `clock`: slot 2 gets a packet of connection 7, slots 0, 1, 3 and 4 those of connection 6, early in this tick and the next.
+fn tick_slot2(state: &mut [u8], memory: &mut [u8], clock: u8, time: u8) {
+    let mut arrivals = [0u8; Router::ARRIVALS];
+    put_five(&mut arrivals, [6; Router::PORTS], nth(clock, 11), 1);
+    put_packet(&mut arrivals, 2, 7, time, 3);
+    tick_unseen(state, memory, &arrivals);
+}
+
+// The next tick: slot 9 gets a packet of connection 5, slots 5 to 8 those of connection 6. Port 0 sends that of slot 9, under its deadline.
+fn tick_slot9(
+    state: &mut [u8],
+    memory: &mut [u8],
+    name: &[u8],
+    clock: u8,
+    time: u8,
+    port: u8,
+    deadline: u8,
+) {
+    let mut arrivals = [0u8; Router::ARRIVALS];
+    let mut expected = [0u8; Router::OUTGOING];
+    let mut answers = [0, 0, 0, 0, 0, 1, 1, 1, 1, 1, 0, 0, 0, 0, 0, 0, 0, 0, 0, 0];
+    answers[0] = port;
+    put_five(&mut arrivals, [6; Router::PORTS], nth(clock, 11), 6);
+    put_packet(&mut arrivals, 4, 5, time, 10);
+    put_packet(&mut expected, 0, 33, deadline, 10);
+    print(b"slots 9 and 2, ");
+    tick(state, memory, &arrivals, 31, name, &expected, &answers);
+}
+
+// Equal keys in slots 9 and 2, where slot 9's packet goes first: the clock before that tick, and port 0's horizon; delay and time of slot 2's packet, then of slot 9's;
+// the port's answer, and the deadline with which it sends slot 9's.
+fn nine_first(
+    name: &[u8],
+    clock: u8,
+    horizon: u8,
+    delay2: u8,
+    time2: u8,
+    delay9: u8,
+    time9: u8,
+    port: u8,
+    deadline: u8,
+) {
+    let mut state = [0u8; Router::STATE];
+    let mut memory = [0u8; Router::MEMORY];
+    connect_tied(&mut state, &mut memory, clock, horizon, delay2, delay9);
+    tick_slot2(&mut state, &mut memory, clock, time2);
+    tick_slot9(&mut state, &mut memory, name, clock, time9, port, deadline);
+}
+
+// On time, the earlier time goes first; early, the earlier deadline. At t = 240, and after the clock's turn at t = 0.
+fn ties() {
+    nine_first(b"times 210 and 240", 239, 0, 10, 240, 40, 210, 1, 250);
+    nine_first(b"times 246 and 0", 255, 0, 10, 0, 20, 246, 1, 10);
+    nine_first(b"deadlines 90 and 120", 239, 96, 40, 80, 10, 80, 3, 90);
+    nine_first(b"deadlines 251 and 25", 239, 1, 40, 241, 10, 241, 3, 251);
+    nine_first(b"deadlines 128 and 223", 255, 96, 127, 96, 32, 96, 3, 128);
 }
 
 // How many addresses are idle.
@@ -326,6 +410,7 @@ fn main() {
     one_packet();
     two_packets(&mut state, &mut memory);
     equal_keys(&mut state, &mut memory);
+    ties();
     five_ports(&mut state, &mut memory);
     all_stored(&mut state, &mut memory);
 }
