@@ -24,7 +24,7 @@ lessClock t k = record { early = k .early; key = k .key -ℤ t; second = k .seco
 -- Keys go in the same order then.
 pub comparator-less-clock : (t : ℤ) (k l : Key) → comparator (lessClock t k) (lessClock t l) ≡ comparator k l
 unfolding comparator then by
-comparator-less-clock t k l = rw (diff-lt t (k .key) (l .key), diff-lt t (l .key) (k .key), diff-lt t (k .second) (l .second))
+comparator-less-clock t k l = simp diff-lt
 
 -- What the comparator sees of a packet of either sort.
 abbrev keyOf : Bool → Packet → Key
