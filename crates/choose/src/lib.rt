@@ -41,19 +41,11 @@ pub fn rank(state: &[u8], t: ClockReading, s: SlotAddress) -> u32
     ensures { λ r. ⌜ r ≡ Ranks.slotRank board8 (now (state .entry)) (s .0) ⌝ }
 {
     let slot = layout::times(state, s);
+    let laxity = clock::since(slot.deadline, t);
     if clock::on_time(slot.time, t) {
-        return digits(
-            clock::since(slot.deadline, t),
-            clock::raised_offset(slot.time, t),
-            s,
-        );
+        return digits(laxity, clock::raised_offset(slot.time, t), s);
     }
-    EARLY
-        + digits(
-            clock::since(slot.time, t),
-            clock::since(slot.deadline, t),
-            s,
-        )
+    EARLY + digits(clock::since(slot.time, t), laxity, s)
 }
 
 fn lesser(rank: u32, best: u32) -> u32

@@ -12,21 +12,21 @@ returns : tie.Need-returns
 unfolding bits
 returns c =
     let q = c .before in
-    let k = q .before in
-    let o = k .before .before in
-    let x = o .before in
+    let o = q .before .before in
+    let l = o .before in
+    let x = l .before in
     c .digits .ensures
-    ∙ rank-on-time board8 _ _ _ _ _ (x .before .before .pre) (x .times .ensures .0) (x .times .ensures .1) _ _ (sym (o .on-time .ensures) ∙ k .before .if1 .taken) (k .since .ensures) (q .raised-offset .ensures)
+    ∙ rank-on-time board8 _ _ _ _ _ (x .before .before .pre) (x .times .ensures .0) (x .times .ensures .1) _ _ (sym (o .on-time .ensures) ∙ q .before .if1 .taken) (l .since .ensures) (q .raised-offset .ensures)
 
 returns-2 : tie.Need-returns-2
 unfolding bits
 returns-2 c =
-    let q = c .before in
-    let k = q .before in
+    let k = c .before in
     let o = k .before .before in
-    let x = o .before in
+    let l = o .before in
+    let x = l .before in
     ap (λ (n : ℕ). 16777216 + n) (c .digits2 .ensures)
-    ∙ rank-early board8 _ _ _ _ _ (x .before .before .pre) (x .times .ensures .0) (x .times .ensures .1) _ _ (sym (o .on-time .ensures) ∙ k .before .if1 .left) (k .since2 .ensures) (q .since3 .ensures)
+    ∙ rank-early board8 _ _ _ _ _ (x .before .before .pre) (x .times .ensures .0) (x .times .ensures .1) _ _ (sym (o .on-time .ensures) ∙ k .before .if1 .left) (k .since2 .ensures) (l .since .ensures)
 
 pub rank-spec : {M : Type 1} → statement M
 rank-spec =
@@ -35,5 +35,5 @@ rank-spec =
     (λ c κs. search needs) (λ c κs. search needs) (λ c κs. search needs) (λ c κs. search needs)
     (λ c κs. search needs)
     returns
-    (λ c κs. search needs) (λ c κs. search needs) (λ c κs. search needs) (λ c. search needs)
+    (λ c κs. search needs) (λ c κs. search needs) (λ c. search needs)
     returns-2)
