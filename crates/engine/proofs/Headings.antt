@@ -10,7 +10,8 @@ use lib.Dec.{leb}
 use lib.IntN.{pos}
 use Rattle.rules.specs.Areas.{bits, has, Grant, nobody, bestEffort, onTime, early}
 use Rattle.rules.specs.Board.{Horizon, Mask, board8}
-use Rattle.rules.specs.Tick.{slotKey}
+use Rattle.rules.specs.Order.{counted}
+use Rattle.rules.specs.Tick.{isEarly, slotKey}
 use Rattle.rules.proofs.Booleans.{some-inj, none-some}
 use Rattle.passes.specs.Ranks.{firstDigit, secondDigit, slotRank}
 use Rattle.passes.proofs.Ranks.{first-lt, second-lt}
@@ -30,7 +31,9 @@ some-heads s p e em et = rw (← e, ← em, et)
 -- The key of slot i is the third digit of its rank r.
 pub rank-key : (s : List ℕ) (i : ℕ) → i < 256 → (r : ℕ) → r ≡ slotRank board8 s i → pos (r / 65536 % 256) ≡ slotKey board8 s i .key
 unfolding slotKey bits
-rank-key s i h r e = ap pos (go _ (firstDigit board8 s i) (secondDigit board8 s i) (first-lt board8 s i) (second-lt board8 s i) e)
+rank-key s i h r q =
+    let e = isEarly board8 s i in
+    ap pos (go (counted e) (firstDigit board8 e s i) (secondDigit board8 e s i) (first-lt board8 s e i) (second-lt board8 s e i) q)
   where
     go : (a k q : ℕ) → k < 256 → q < 256 → r ≡ ((a * 256 + k) * 256 + q) * 256 + i → r / 65536 % 256 ≡ k
     go a k q hk hq e = omega arith

@@ -1,6 +1,6 @@
 -- One minimum finds the winner: of two slots the lower rank is that of the one that goes first, so that the least rank is that of the least key; and it says whom the port is granted.
 -- Assumes nothing.
-use Prim.Native.Nat.{ℕ, suc, _+_, _-_, _*_, _%_, _^_, _<_, _≤_}
+use Prim.Native.Nat.{ℕ, suc, _+_, _-_, _*_, _%_, _<_, _≤_}
 use mathlib.Core.Path.{_≡_, refl, sym, ap, _∙_}
 use mathlib.Core.Bool.{Bool, true, false, cond, not, _&&_, _||_}
 use mathlib.Core.List.{List}
@@ -26,7 +26,7 @@ use Rattle.rules.proofs.Integers.{ltb-iff}
 use Rattle.rules.proofs.Masks.{has-zero}
 use Rattle.rules.proofs.Offsets.{above, raised-order}
 use Rattle.passes.specs.Ports.{EachPort, changed}
-use Rattle.passes.specs.Ranks.{lesser, turn, firstDigit, secondDigit, slotRank, earlyRanks, noRank, rankOf, best, bound}
+use Rattle.passes.specs.Ranks.{lesser, turn, firstDigit, secondDigit, keyDigits, slotRank, earlyRanks, noRank, rankOf, best, bound}
 use Rattle.passes.proofs.MaskPorts.{has-low}
 
 -- ---- numbers of two digits
@@ -65,58 +65,45 @@ module _ (B : Board) where
 
   module _ (s : List ℕ) where
     -- Both keys are below a turn.
-    pub first-lt : (i : ℕ) → firstDigit B s i < turn B
-    first-lt i = minus-lt (bits c) _ _
+    pub first-lt : (e : Bool) (i : ℕ) → firstDigit B e s i < turn B
+    first-lt e i = minus-lt (bits c) _ _
 
-    pub second-lt : (i : ℕ) → secondDigit B s i < turn B
+    pub second-lt : (e : Bool) (i : ℕ) → secondDigit B e s i < turn B
     unfolding plus
-    second-lt i = go (isEarly B s i)
-      where
-        go : (e : Bool) → cond e (minus (bits c) (get s (Deadline, i)) (get s clock)) (plus (bits c) (minus (bits c) (get s (Time, i)) (get s clock)) (half c)) < turn B
-        go true = minus-lt (bits c) _ _
-        go false = mod-lt _ (pow-pos (bits c))
+    second-lt true i = minus-lt (bits c) _ _
+    second-lt false i = mod-lt _ (pow-pos (bits c))
 
-    -- A rank without its slot.
-    abbrev high : ℕ → ℕ
-    high i = (counted (isEarly B s i) * turn B + firstDigit B s i) * turn B + secondDigit B s i
-
-    -- Slots go by these as their keys do.
-    high-order : (i j : ℕ) → ltb (high i) (high j) ≡ comparator (slotKey B s i) (slotKey B s j)
+    -- These digits go as the keys do: by the sort, by the key, then by the second key, offsets in the order of their raised ones.
+    digits-order : (i j : ℕ) → ltb (keyDigits B s i) (keyDigits B s j) ≡ comparator (slotKey B s i) (slotKey B s j)
     unfolding comparator then by onTimeFirst slotKey counted
-    high-order i j =
-        let x = counted (isEarly B s i) in
-        let y = counted (isEarly B s j) in
-        rw (
-          two-digits (turn B) (x * turn B + firstDigit B s i) (y * turn B + firstDigit B s j) (secondDigit B s i) (secondDigit B s j) (second-lt i) (second-lt j),
-          two-digits (turn B) x y (firstDigit B s i) (firstDigit B s j) (first-lt i) (first-lt j),
-          two-digits (turn B) y x (firstDigit B s j) (firstDigit B s i) (first-lt j) (first-lt i),
-        ) (go (isEarly B s i) (isEarly B s j))
+    digits-order i j = go (isEarly B s i) (isEarly B s j)
       where
-        t : ℕ
-        t = get s clock
-
-        first : Bool → ℕ → ℕ
-        first e i = minus (bits c) (cond e (get s (Time, i)) (get s (Deadline, i))) t
-
-        second : Bool → ℕ → ℕ
-        second e i = cond e (minus (bits c) (get s (Deadline, i)) t) (plus (bits c) (minus (bits c) (get s (Time, i)) t) (half c))
-
         key : Bool → ℕ → Key
-        key e i = record { early = e; key = pos (first e i); second = cond e (pos (minus (bits c) (get s (Deadline, i)) t)) (offset (bits c) (get s (Time, i)) t) }
+        key e i = record { early = e; key = pos (firstDigit B e s i); second = cond e (pos (minus (bits c) (get s (Deadline, i)) (get s clock))) (offset (bits c) (get s (Time, i)) (get s clock)) }
+
+        sorted : (e d : Bool)
+            → (ltb (counted e) (counted d) || (not (ltb (counted d) (counted e)) && ltb (firstDigit B e s i) (firstDigit B d s j))
+            || (not (ltb (counted d) (counted e) || (not (ltb (counted e) (counted d)) && ltb (firstDigit B d s j) (firstDigit B e s i))) && ltb (secondDigit B e s i) (secondDigit B d s j)))
+            ≡ comparator (key e i) (key d j)
+        sorted true true = refl
+        sorted true false = refl
+        sorted false true = refl
+        sorted false false = rw (raised-order c (get s (Time, i)) (get s (Time, j)) (get s clock))
 
         go : (e d : Bool)
-            → (ltb (counted e) (counted d) || (not (ltb (counted d) (counted e)) && ltb (first e i) (first d j))
-            || (not (ltb (counted d) (counted e) || (not (ltb (counted e) (counted d)) && ltb (first d j) (first e i))) && ltb (second e i) (second d j)))
+            → ltb ((counted e * turn B + firstDigit B e s i) * turn B + secondDigit B e s i) ((counted d * turn B + firstDigit B d s j) * turn B + secondDigit B d s j)
             ≡ comparator (key e i) (key d j)
-        go true true = refl
-        go true false = refl
-        go false true = refl
-        go false false = rw (raised-order c (get s (Time, i)) (get s (Time, j)) t)
+        go e d =
+            rw (
+              two-digits (turn B) (counted e * turn B + firstDigit B e s i) (counted d * turn B + firstDigit B d s j) (secondDigit B e s i) (secondDigit B d s j) (second-lt e i) (second-lt d j),
+              two-digits (turn B) (counted e) (counted d) (firstDigit B e s i) (firstDigit B d s j) (first-lt e i) (first-lt d j),
+              two-digits (turn B) (counted d) (counted e) (firstDigit B d s j) (firstDigit B e s i) (first-lt d j) (first-lt e i),
+            ) (sorted e d)
 
     -- So the lower rank is that of the slot which goes first: by the comparator, and where it doesn't tell them apart the lower slot.
     pub rank-order : (i j : ℕ) → i < 256 → j < 256 → ltb (slotRank B s i) (slotRank B s j) ≡ then (by (slotKey B s) comparator) ltb i j
     unfolding then by
-    rank-order i j hi hj = rw (two-digits 256 (high i) (high j) i j hi hj, high-order i j, high-order j i)
+    rank-order i j hi hj = rw (two-digits 256 (keyDigits B s i) (keyDigits B s j) i j hi hj, digits-order i j, digits-order j i)
 
     -- Against a lower slot the comparator decides alone.
     rank-higher : (i j : ℕ) → i < 256 → j < i → ltb (slotRank B s i) (slotRank B s j) ≡ comparator (slotKey B s i) (slotKey B s j)
@@ -137,13 +124,13 @@ module _ (B : Board) where
 
   module _ (s : List ℕ) (i : ℕ) (hi : i < 256) where
     -- Below a multiple of a turn and 256 is a matter of the two higher digits.
-    rank-below : (m : ℕ) → ltb (slotRank B s i) (m * turn B * 256) ≡ ltb (counted (isEarly B s i) * turn B + firstDigit B s i) m
-    rank-below m = high-digit 256 (high s i) (m * turn B) i hi ∙ high-digit (turn B) _ m (secondDigit B s i) (second-lt s i)
+    rank-below : (m : ℕ) → ltb (slotRank B s i) (m * turn B * 256) ≡ ltb (counted (isEarly B s i) * turn B + firstDigit B (isEarly B s i) s i) m
+    rank-below m = high-digit 256 (keyDigits B s i) (m * turn B) i hi ∙ high-digit (turn B) _ m (secondDigit B (isEarly B s i) s i) (second-lt s (isEarly B s i) i)
 
     -- So an early rank is from the early ones on, any other below them, and each below that of none.
     rank-sort : ltb (slotRank B s i) (earlyRanks B) ≡ not (isEarly B s i)
     unfolding counted
-    rank-sort = rank-below (turn B) ∙ go (isEarly B s i) (firstDigit B s i) (first-lt s i)
+    rank-sort = rank-below (turn B) ∙ go (isEarly B s i) (firstDigit B (isEarly B s i) s i) (first-lt s (isEarly B s i) i)
       where
         go : (e : Bool) (x : ℕ) → x < turn B → ltb (counted e * turn B + x) (turn B) ≡ not e
         go true x h = le-ltb (1 * turn B + x) (turn B) (omega arith)
@@ -151,7 +138,7 @@ module _ (B : Board) where
 
     rank-lt : slotRank B s i < noRank B
     unfolding counted
-    rank-lt = ltb-true (slotRank B s i) (noRank B) (rank-below (2 * turn B) ∙ go (isEarly B s i) (firstDigit B s i) (first-lt s i))
+    rank-lt = ltb-true (slotRank B s i) (noRank B) (rank-below (2 * turn B) ∙ go (isEarly B s i) (firstDigit B (isEarly B s i) s i) (first-lt s (isEarly B s i) i))
       where
         go : (e : Bool) (x : ℕ) → x < turn B → ltb (counted e * turn B + x) (2 * turn B) ≡ true
         go true x h = lt-ltb (1 * turn B + x) (2 * turn B) (omega arith)
@@ -162,7 +149,7 @@ module _ (B : Board) where
     rank-slot = omega arith
 
     -- Where it is early it is below the bound exactly if best-effort doesn't wait and the key is at most the horizon.
-    rank-bound : isEarly B s i ≡ true → (b : Bool) (h : ℕ) → ltb (slotRank B s i) (bound B b h) ≡ (not b && leb (firstDigit B s i) h)
+    rank-bound : isEarly B s i ≡ true → (b : Bool) (h : ℕ) → ltb (slotRank B s i) (bound B b h) ≡ (not b && leb (firstDigit B (isEarly B s i) s i) h)
     unfolding counted
     rank-bound e true h = rank-sort ∙ rw e
     rank-bound e false h = let m : bound B false h ≡ (turn B + (h + 1)) * turn B * 256 = omega arith in ap (ltb (slotRank B s i)) m ∙ rank-below (turn B + (h + 1)) ∙ rw e (go _ (decLe _ h))
@@ -174,24 +161,24 @@ module _ (B : Board) where
   -- ---- the least rank of the slots below i
 
   -- The least, if there is one, is a slot below n and its key.
-  abbrev Of : List ℕ → ℕ → Option (ℕ × Key) → Type 0
-  Of s n none = Unit
-  Of s n (some (i, k)) = (i < n) × (k ≡ slotKey B s i)
+  abbrev OfSlot : List ℕ → ℕ → Option (ℕ × Key) → Type 0
+  OfSlot s n none = Unit
+  OfSlot s n (some (i, k)) = (i < n) × (k ≡ slotKey B s i)
 
-  least-of : (s : List ℕ) (p n : ℕ) → Of s n (least comparator (candidate B s p) n)
+  least-of-slot : (s : List ℕ) (p n : ℕ) → OfSlot s n (least comparator (candidate B s p) n)
   unfolding candidate
-  least-of s p n = go (least comparator (candidate B s p) n) refl
+  least-of-slot s p n = go (least comparator (candidate B s p) n) refl
     where
       keyed : (t : Bool) (i : ℕ) (k : Key) → cond t (some (slotKey B s i)) none ≡ some k → k ≡ slotKey B s i
       keyed true i k e = sym (some-inj e)
       keyed false i k e = none-some e
 
-      go : (v : Option (ℕ × Key)) → least comparator (candidate B s p) n ≡ v → Of s n v
+      go : (v : Option (ℕ × Key)) → least comparator (candidate B s p) n ≡ v → OfSlot s n v
       go none e = tt
       go (some (i, k)) e = let h = least-in comparator (candidate B s p) n i k e in (h .0, keyed (has (get s (Mask, i)) p) i k (h .1))
 
   -- The lesser rank is that of the better key.
-  rank-better : (s : List ℕ) (i : ℕ) → i < 256 → (v : Option (ℕ × Key)) → Of s i v → lesser (slotRank B s i) (rankOf B s v) ≡ rankOf B s (better comparator v i (some (slotKey B s i)))
+  rank-better : (s : List ℕ) (i : ℕ) → i < 256 → (v : Option (ℕ × Key)) → OfSlot s i v → lesser (slotRank B s i) (rankOf B s v) ≡ rankOf B s (better comparator v i (some (slotKey B s i)))
   unfolding better rankOf
   rank-better s i h none o = rw (lt-ltb (slotRank B s i) (noRank B) (rank-lt s i h))
   rank-better s i h (some (j, l)) (hj, q) = rw (rank-higher s i j h hj, q) (go (comparator (slotKey B s i) (slotKey B s j)))
@@ -212,7 +199,7 @@ module _ (B : Board) where
   -- Any other makes it the lesser.
   best-with : (s : List ℕ) (i p : ℕ) → i < 256 → has (get s (Mask, i)) p ≡ true → lesser (slotRank B s i) (best B s i p) ≡ best B s (suc i) p
   unfolding best least candidate
-  best-with s i p h z = rw z (rank-better s i h (least comparator (candidate B s p) i) (least-of s p i))
+  best-with s i p h z = rw z (rank-better s i h (least comparator (candidate B s p) i) (least-of-slot s p i))
 
   -- ---- the least ranks of the five ports
 
@@ -247,16 +234,16 @@ module _ (B : Board) where
   byRank b h r = cond (ltb r (earlyRanks B)) (onTime (r % 256)) (cond (ltb r (noRank B) && ltb r (bound B b h)) (early (r % 256)) (cond b bestEffort nobody))
 
   -- By cases of the sort: the tests tell it, and whether an early slot is sent.
-  granted-by-rank : (s : List ℕ) (v : Option (ℕ × Key)) → Of s 256 v → (b : Bool) (h : ℕ) → byRank b h (rankOf B s v) ≡ granted v b h
+  granted-by-rank : (s : List ℕ) (v : Option (ℕ × Key)) → OfSlot s 256 v → (b : Bool) (h : ℕ) → byRank b h (rankOf B s v) ≡ granted v b h
   unfolding byRank rankOf granted slotKey
   granted-by-rank s none o b h = rw (le-ltb (noRank B) (earlyRanks B) (omega arith), le-ltb (noRank B) (noRank B) (omega arith))
   granted-by-rank s (some (i, k)) (hi, q) b h =
       rw (q, rank-sort s i hi, lt-ltb (slotRank B s i) (noRank B) (rank-lt s i hi), rank-slot s i hi) (go (isEarly B s i) refl (ltb (slotRank B s i) (bound B b h)) (λ e. rank-bound s i hi e b h))
     where
-      go : (e : Bool) → isEarly B s i ≡ e → (t : Bool) → (isEarly B s i ≡ true → t ≡ (not b && leb (firstDigit B s i) h))
-          → cond (not e) (onTime i) (cond t (early i) (cond b bestEffort nobody)) ≡ cond e (cond b bestEffort (cond (leb (firstDigit B s i) h) (early i) nobody)) (onTime i)
+      go : (e : Bool) → isEarly B s i ≡ e → (t : Bool) → (isEarly B s i ≡ true → t ≡ (not b && leb (firstDigit B (isEarly B s i) s i) h))
+          → cond (not e) (onTime i) (cond t (early i) (cond b bestEffort nobody)) ≡ cond e (cond b bestEffort (cond (leb (firstDigit B (isEarly B s i) s i) h) (early i) nobody)) (onTime i)
       go false e t f = refl
-      go true e t f = rw (f e) (sent b (leb (firstDigit B s i) h))
+      go true e t f = rw (f e) (sent b (leb (firstDigit B (isEarly B s i) s i) h))
         where
           sent : (b a : Bool) → cond (not b && a) (early i) (cond b bestEffort nobody) ≡ cond b bestEffort (cond a (early i) nobody)
           sent true a = refl
@@ -267,7 +254,7 @@ module _ (B : Board) where
     -- The horizon is h, and best-effort waits if b.
     by-rank : (b : Bool) → b ≡ has waiting p → (h : ℕ) → h ≡ get s (Horizon, p) → byRank b h r ≡ grant B s waiting p
     unfolding grant best
-    by-rank b eb h eh = rw (er, eb, eh) (granted-by-rank s (least comparator (candidate B s p) 256) (least-of s p 256) (has waiting p) (get s (Horizon, p)))
+    by-rank b eb h eh = rw (er, eb, eh) (granted-by-rank s (least comparator (candidate B s p) 256) (least-of-slot s p 256) (has waiting p) (get s (Horizon, p)))
 
     pub grants-on-time : r < earlyRanks B → onTime (r % 256) ≡ grant B s waiting p
     unfolding byRank

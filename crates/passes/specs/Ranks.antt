@@ -21,16 +21,20 @@ module _ (B : Board) where
   abbrev pub turn : ℕ
   turn = 2 ^ bits c
 
-  -- The key of slot i, and its second key from 0 on: an offset counts from half a turn before the clock.
-  abbrev pub firstDigit : List ℕ → ℕ → ℕ
-  firstDigit s i = minus (bits c) (cond (isEarly B s i) (get s (Time, i)) (get s (Deadline, i))) (get s clock)
+  -- The key of slot i of either sort, and its second key from 0 on: an offset counts from half a turn before the clock.
+  abbrev pub firstDigit : Bool → List ℕ → ℕ → ℕ
+  firstDigit e s i = minus (bits c) (cond e (get s (Time, i)) (get s (Deadline, i))) (get s clock)
 
-  abbrev pub secondDigit : List ℕ → ℕ → ℕ
-  secondDigit s i = cond (isEarly B s i) (minus (bits c) (get s (Deadline, i)) (get s clock)) (plus (bits c) (minus (bits c) (get s (Time, i)) (get s clock)) (half c))
+  abbrev pub secondDigit : Bool → List ℕ → ℕ → ℕ
+  secondDigit e s i = cond e (minus (bits c) (get s (Deadline, i)) (get s clock)) (plus (bits c) (minus (bits c) (get s (Time, i)) (get s clock)) (half c))
 
-  -- The rank of slot i, for each port in its mask: first whether it is early, then the key, then the second key, then the slot, as the digits of a number.
+  -- What the comparator sees of slot i as the digits of a number: first whether it is early, then the key, then the second key.
+  abbrev pub keyDigits : List ℕ → ℕ → ℕ
+  keyDigits s i = let e = isEarly B s i in (counted e * turn + firstDigit e s i) * turn + secondDigit e s i
+
+  -- The rank of slot i, for each port in its mask: with the slot as the lowest digit.
   abbrev pub slotRank : List ℕ → ℕ → ℕ
-  slotRank s i = ((counted (isEarly B s i) * turn + firstDigit s i) * turn + secondDigit s i) * 256 + i
+  slotRank s i = keyDigits s i * 256 + i
 
   -- Where the early ranks begin, and what is above all ranks.
   abbrev pub earlyRanks : ℕ
