@@ -403,6 +403,73 @@ unsigned tick(unsigned arrivals_mask, unsigned best_effort_mask)
     return call_both(&c);
 }
 
+/* ---- The order of packets ---- */
+
+/* The offset of a time: the difference of the two bytes, brought into -128 to 127. */
+static int offset_of(int time, int t)
+{
+    int offset = time - t;
+
+    return offset < -128 ? offset + 256 : offset > 127 ? offset - 256 : offset;
+}
+
+/* Ticks from now to a time that is ahead, 0 to 255. */
+static int ticks_to(int time, int t)
+{
+    return time < t ? time - t + 256 : time - t;
+}
+
+unsigned see_slots(uint8_t *bytes, struct seen *seen)
+{
+    int t = bytes[ROUTER_STATE_CLOCK];
+    unsigned n = 0;
+
+    for (unsigned s = 0; s < ROUTER_SLOTS; s++) {
+        const uint8_t *slot = slot_at(bytes, s);
+        uint8_t time = slot[ROUTER_SLOT_TIME], deadline = slot[ROUTER_SLOT_DEADLINE];
+        int offset = offset_of(time, t);
+
+        if (slot[ROUTER_SLOT_MASK] == 0)
+            continue;
+        seen[n].early = offset > 0;
+        seen[n].key = offset > 0 ? offset : ticks_to(deadline, t);
+        seen[n].second = offset > 0 ? ticks_to(deadline, t) : offset;
+        seen[n].plain = offset > 0 ? deadline : time;
+        seen[n].slot = s;
+        seen[n].mask = slot[ROUTER_SLOT_MASK];
+        n++;
+    }
+    return n;
+}
+
+int in_order(const void *one, const void *other)
+{
+    const struct seen *x = one, *y = other;
+
+    if (x->early != y->early)
+        return x->early - y->early;
+    if (x->key != y->key)
+        return x->key - y->key;
+    if (x->second != y->second)
+        return x->second - y->second;
+    return (int)x->slot - (int)y->slot;
+}
+
+void count_tie(const struct seen *first, const struct seen *next, unsigned long *occurred)
+{
+    int early = first->early;
+
+    if (early != next->early || first->key != next->key)
+        return;
+    if (first->second == next->second) {
+        occurred[early ? EARLY_BY_SLOT : ON_TIME_BY_SLOT]++;
+        return;
+    }
+    occurred[early ? BY_DEADLINE : BY_TIME] += first->slot > next->slot;
+    occurred[early ? NOT_BY_DEADLINE_BYTE : NOT_BY_TIME_BYTE] += first->plain > next->plain;
+    occurred[NOT_BY_OFFSET] += early && first->second < 128 && next->second >= 128;
+}
+
 /* ---- Makers of states, packets and calls ---- */
 
 void open_connection(unsigned in, unsigned out, unsigned d, unsigned mask)
@@ -484,12 +551,41 @@ struct regime random_regime(void)
     r.connections = below(2) ? 1 + below(8) : 1 + below(256);
     r.delay_max = below(2) ? ROUTER_DELAY_MAX : below(16);
     r.horizon_max = below(2) ? ROUTER_HORIZON_MAX : below(8);
-    r.offsets = below(5);
+    r.offsets = below(OFFSETS);
     r.unicast = chance(40);
     return r;
 }
 
-static int random_offset(const struct regime *r, int d)
+/* Packets that share a time, or a deadline, have one of the readings of the clock that this divides. */
+#define SHARED_EVERY 32
+
+/* The offset of a packet that shares its time, or its deadline: this is one of the next four such readings. */
+static int shared_offset(const struct regime *r, uint8_t t, int d)
+{
+    int ahead = (SHARED_EVERY - t % SHARED_EVERY) % SHARED_EVERY + SHARED_EVERY * (int)below(128 / SHARED_EVERY);
+
+    return r->offsets == SHARED_DEADLINES ? ahead - d : ahead;
+}
+
+void make_tied(const struct regime *r, unsigned stored)
+{
+    int low = between(0, ROUTER_DELAY_MAX), high = between(low, ROUTER_DELAY_MAX);
+    unsigned ports = 1 + below(ROUTER_MASK_MAX);
+
+    make_sound(stored);
+    for (unsigned c = 0; c < ROUTER_CONNECTIONS; c++) {
+        entry_at(state, c)[ROUTER_ENTRY_DELAY] = (uint8_t)edgy(low, high);
+        entry_at(state, c)[ROUTER_ENTRY_MASK] = (uint8_t)ports;
+    }
+    for (unsigned s = 0; s < ROUTER_SLOTS; s++) {
+        int d = edgy(low, high), offset = shared_offset(r, state[ROUTER_STATE_CLOCK], d);
+
+        if (slot_at(state, s)[ROUTER_SLOT_MASK] != 0)
+            put_stored(s, offset > 126 ? offset - SHARED_EVERY : offset, (unsigned)d, ports);
+    }
+}
+
+static int random_offset(const struct regime *r, uint8_t t, int d)
 {
     const int edge[] = {-128, -d - 1, -d, -d + 1, -1, 0, 1, 2, 126, 127};
 
@@ -502,19 +598,22 @@ static int random_offset(const struct regime *r, int d)
         return edge[below(sizeof edge / sizeof *edge)];
     case AHEAD:
         return between(64, 127);
-    default:
+    case NEAR:
         return between(-d, 8);
+    default:
+        return shared_offset(r, t, d);
     }
 }
 
 int random_arrival(const struct regime *r, uint8_t *router, uint8_t *packet)
 {
     unsigned connection = chance(r->odd) ? random_byte() : below(r->connections);
-    int offset = random_offset(r, entry_at(router, connection)[ROUTER_ENTRY_DELAY]);
+    uint8_t t = router[ROUTER_STATE_CLOCK];
+    int offset = random_offset(r, t, entry_at(router, connection)[ROUTER_ENTRY_DELAY]);
 
     random_bytes(packet, ROUTER_PACKET_LEN);
     packet[ROUTER_PACKET_ID] = (uint8_t)connection;
-    packet[ROUTER_PACKET_TIME] = (uint8_t)(router[ROUTER_STATE_CLOCK] + offset);
+    packet[ROUTER_PACKET_TIME] = (uint8_t)(t + offset);
     return offset;
 }
 

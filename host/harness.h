@@ -1,6 +1,6 @@
 /*
  * harness.h - what the tests share: random numbers, sections, areas against inaccessible pages, calls of the
- * implementation under test and of the plain one, and makers of states, packets and calls.
+ * implementation under test and of the plain one, the order of packets, and makers of states, packets and calls.
  *
  * Each area lies against inaccessible pages, by turns at its start and at its end, and areas that a call only reads
  * are lent read-only, so that a stray access is seen.
@@ -113,6 +113,42 @@ unsigned call_both(const struct call *c);
 unsigned control(unsigned reg, unsigned value);
 unsigned tick(unsigned arrivals_mask, unsigned best_effort_mask); /* outgoing and answers are random before it */
 
+/* ---- The order of packets ---- */
+
+/* A stored slot as the rules see it. */
+struct seen {
+    int early;
+    int key;       /* on time: ticks to the deadline; early: ticks to the time */
+    int second;    /* on time: the time's offset; early: ticks to the deadline */
+    uint8_t plain; /* the byte that the second key is made from */
+    unsigned slot, mask;
+};
+
+/* The stored slots of a state, the lowest first; says how many. */
+unsigned see_slots(uint8_t *bytes, struct seen *seen);
+
+/* Below 0 if the packet goes before the other, as qsort wants it: on time, least key, least second key, lowest slot. */
+int in_order(const void *one, const void *other);
+
+/*
+ * What there is to a tie of keys: the second key decides, against the lower slot, or against the plain byte that it is
+ * made from, or against the offset of a deadline; or it is equal too, and the slot decides.
+ */
+enum tie {
+    BY_TIME, NOT_BY_TIME_BYTE, ON_TIME_BY_SLOT,
+    BY_DEADLINE, NOT_BY_DEADLINE_BYTE, NOT_BY_OFFSET, EARLY_BY_SLOT,
+    TIES
+};
+
+#define TIE_NAMES(where)                                                                                             \
+    where "on-time tie: by time, against slots", where "on-time tie: against times as plain bytes",                  \
+        where "on-time tie: by slot", where "early tie: by deadline, against slots",                                 \
+        where "early tie: against deadlines as plain bytes", where "early tie: against offsets of deadlines",        \
+        where "early tie: by slot"
+
+/* Two packets wait for one port, the first goes before the next: counts what there is to their tie, if it is one. */
+void count_tie(const struct seen *first, const struct seen *next, unsigned long *occurred);
+
 /* ---- Makers of states, packets and calls ---- */
 
 void open_connection(unsigned in, unsigned out, unsigned d, unsigned mask);
@@ -127,11 +163,18 @@ void make_sound(unsigned stored);
 struct regime {
     unsigned arrivals, best_effort, controls, odd; /* percent */
     unsigned connections, delay_max, horizon_max;
-    enum { ANY_VALID, ANY, EDGES, AHEAD, NEAR } offsets;
+    enum { ANY_VALID, ANY, EDGES, AHEAD, NEAR, SHARED_TIMES, SHARED_DEADLINES, OFFSETS } offsets;
     int unicast;
 };
 
 struct regime random_regime(void);
+
+/*
+ * Makes a random sound state in which packets share times, or deadlines, as the regime's offsets have it, and all are
+ * for the same ports; so are the connections, by which arrivals of this regime come to share them too.
+ */
+void make_tied(const struct regime *r, unsigned stored);
+
 uint8_t random_mask(unsigned percent);
 void random_control(const struct regime *r, uint8_t *reg, uint8_t *value);
 

@@ -1,6 +1,6 @@
 /*
  * parts.h - what the plain implementations of the router and of the service entries share: fields of the state, the
- * questions, control writes, and those steps of a tick that choose nothing.
+ * questions, control writes, the order of packets, and those steps of a tick that choose nothing.
  */
 #ifndef PARTS_H
 #define PARTS_H
@@ -180,6 +180,35 @@ static void write_register(uint8_t *state, uint8_t reg, uint8_t value)
                 state[ROUTER_STATE_HORIZONS + p] = value;
         }
     }
+}
+
+/* ---- The order of packets ---- */
+
+/*
+ * The rank of a packet. Of those that wait for a port the least rank goes first, and of equal ranks the lower slot. On
+ * time is below early; then the first key decides, which is that of document 001, Fig. 7, and then the second:
+ *
+ *            first key                 second key
+ *   on time  ticks to the deadline     ticks to the time, from half a turn ago
+ *   early    ticks to the time         ticks to the deadline
+ *
+ * So of two on time with one deadline the earlier time goes first, and of two early with one time the earlier deadline,
+ * which can be 254 ticks ahead. Each key is a byte; those of an empty slot, which queues that are not the state's may
+ * hold, can be any.
+ */
+#define KEYS 256u
+#define RANK_EARLY (KEYS * KEYS)
+#define RANK_NONE (2 * RANK_EARLY) /* of a port without a packet; its first key is beyond every horizon */
+#define HALF_TURN 128u
+
+static unsigned rank(const uint8_t *slot, uint8_t t)
+{
+    unsigned laxity = (uint8_t)(slot[ROUTER_SLOT_DEADLINE] - t);
+    unsigned ahead = (uint8_t)(slot[ROUTER_SLOT_TIME] - t);
+
+    if (ahead - 1 < OFFSET_MAX)
+        return RANK_EARLY + KEYS * ahead + laxity;
+    return KEYS * laxity + (uint8_t)(ahead + HALF_TURN);
 }
 
 /* ---- Steps of a tick ---- */

@@ -3,22 +3,15 @@
 #include "parts.h"
 #include "plain.h"
 
-/*
- * The key of a packet at a port, as in document 001, Fig. 7: smaller is sent first. On-time keys are deadline - t,
- * 0 to 127; early keys are KEY_EARLY + (time - t), 129 to 255; KEY_NONE stands for a port without a packet.
- */
-#define KEY_EARLY 128u
-#define KEY_NONE 256u
-
 /* The packet that a port would send next. */
 struct choice {
-    unsigned key;
+    unsigned rank;
     unsigned slot;
 };
 
 /* ---- The choice ---- */
 
-/* Step 2: finds the packet of least key for each port, the lowest slot among equals. Says if a deadline is now. */
+/* Step 2: finds the packet of least rank for each port, the lowest slot among equals. Says if a deadline is now. */
 static int choose(const uint8_t *state, struct choice *choice)
 {
     const uint8_t *slot = state + ROUTER_STATE_SLOTS;
@@ -26,21 +19,18 @@ static int choose(const uint8_t *state, struct choice *choice)
     int due = 0;
 
     for (unsigned p = 0; p < ROUTER_PORTS; p++)
-        choice[p].key = KEY_NONE;
+        choice[p].rank = RANK_NONE;
     for (unsigned s = 0; s < ROUTER_SLOTS; s++, slot += ROUTER_SLOT_LEN) {
         unsigned mask = slot[ROUTER_SLOT_MASK];
-        unsigned key, ahead;
+        unsigned own;
 
         if (mask == 0)
             continue;
-        key = (uint8_t)(slot[ROUTER_SLOT_DEADLINE] - t);
-        due |= key == 0;
-        ahead = (uint8_t)(slot[ROUTER_SLOT_TIME] - t);
-        if (ahead - 1 < OFFSET_MAX)
-            key = KEY_EARLY + ahead;
+        due |= slot[ROUTER_SLOT_DEADLINE] == t;
+        own = rank(slot, t);
         for (struct choice *c = choice; mask != 0; c++, mask >>= 1) {
-            if ((mask & 1) != 0 && key < c->key) {
-                c->key = key;
+            if ((mask & 1) != 0 && own < c->rank) {
+                c->rank = own;
                 c->slot = s;
             }
         }
@@ -48,14 +38,14 @@ static int choose(const uint8_t *state, struct choice *choice)
     return due;
 }
 
-/* Step 2, for one port: what its best packet, waiting best-effort traffic and its horizon make of it. */
-static uint8_t port_code(unsigned key, int best_effort, uint8_t horizon)
+/* Step 2, for one port: what its least rank, waiting best-effort traffic and its horizon make of it. */
+static uint8_t port_code(unsigned least, int best_effort, uint8_t horizon)
 {
-    if (key < KEY_EARLY)
+    if (least < RANK_EARLY)
         return ROUTER_PORT_ON_TIME;
     if (best_effort)
         return ROUTER_PORT_BEST_EFFORT;
-    if (key - KEY_EARLY <= horizon)
+    if ((least - RANK_EARLY) / KEYS <= horizon)
         return ROUTER_PORT_EARLY;
     return ROUTER_PORT_IDLE;
 }
@@ -121,7 +111,7 @@ uint8_t plain_tick(uint8_t *state, size_t state_len,
 
     unsettled = choose(state, choice);
     for (unsigned p = 0; p < ROUTER_PORTS; p++) {
-        uint8_t code = port_code(choice[p].key, best_effort_mask >> p & 1, state[ROUTER_STATE_HORIZONS + p]);
+        uint8_t code = port_code(choice[p].rank, best_effort_mask >> p & 1, state[ROUTER_STATE_HORIZONS + p]);
 
         answers[ROUTER_ANSWERS_PORTS + p] = code;
         if (code == ROUTER_PORT_ON_TIME || code == ROUTER_PORT_EARLY) {

@@ -8,9 +8,6 @@
 #include "parts.h"
 #include "plain.h"
 
-/* Above the rank of every slot on time, whose key may be any byte where the slot is empty. */
-#define RANK_EARLY 65536u
-
 #define NO_SLOT ROUTER_SLOTS
 
 /* ---- Slots ---- */
@@ -37,15 +34,10 @@ static int is_early(const uint8_t *state, unsigned s)
     return ticks_to(state, s, ROUTER_SLOT_TIME) - 1 < OFFSET_MAX;
 }
 
-static unsigned key_of(const uint8_t *state, unsigned s)
+/* The comparator's order as one number: by rank, then by slot. */
+static unsigned standing(const uint8_t *state, unsigned s)
 {
-    return ticks_to(state, s, is_early(state, s) ? ROUTER_SLOT_TIME : ROUTER_SLOT_DEADLINE);
-}
-
-/* The comparator's order as one number: on time before early, then by key, then by slot. */
-static unsigned rank(const uint8_t *state, unsigned s)
-{
-    return (is_early(state, s) ? RANK_EARLY : 0) + key_of(state, s) * ROUTER_SLOTS + s;
+    return rank(state + slot_at(s), state[ROUTER_STATE_CLOCK]) * ROUTER_SLOTS + s;
 }
 
 /* ---- One queue ---- */
@@ -78,13 +70,13 @@ static void drop_first(uint8_t *queue)
 static void insert(uint8_t *queue, const uint8_t *state, unsigned s)
 {
     uint8_t *entry = queue + ROUTER_QUEUE_ENTRIES;
-    unsigned own = rank(state, s);
+    unsigned own = standing(state, s);
     unsigned n = size_of(queue);
 
     if (n >= ROUTER_SLOTS)
         return;
     resize(queue, n + 1);
-    for (; n > 0 && rank(state, entry[n - 1]) < own; n--)
+    for (; n > 0 && standing(state, entry[n - 1]) < own; n--)
         entry[n] = entry[n - 1];
     entry[n] = (uint8_t)s;
 }
@@ -172,7 +164,7 @@ static uint8_t serve(const uint8_t *state, const uint8_t *memory, uint8_t *queue
     if (best_effort)
         return ROUTER_PORT_BEST_EFFORT;
     s = heading(state, early, p);
-    if (s == NO_SLOT || key_of(state, s) > state[ROUTER_STATE_HORIZONS + p])
+    if (s == NO_SLOT || ticks_to(state, s, ROUTER_SLOT_TIME) > state[ROUTER_STATE_HORIZONS + p])
         return ROUTER_PORT_IDLE;
     send(memory, s, p, outgoing, sent);
     drop_first(early);

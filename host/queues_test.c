@@ -26,8 +26,9 @@
 enum event {
     AGREED, UNNOTICED,
     SENT_ON_TIME, BEST_EFFORT, SENT_EARLY, HELD_EARLY, STORED, REFUSED, WITHDRAWN,
-    FULL_ON_TIME, FULL_EARLY, MOVED_OVER, ALL_MOVED, EQUAL_KEYS, ENTERED_BETWEEN, CLOCK_TURN,
-    EVENTS
+    FULL_ON_TIME, FULL_EARLY, MOVED_OVER, ALL_MOVED, ENTERED_BETWEEN, CLOCK_TURN,
+    TIE,
+    EVENTS = TIE + TIES
 };
 
 static const char *const event_name[EVENTS] = {
@@ -35,52 +36,13 @@ static const char *const event_name[EVENTS] = {
     "port: first of the on-time queue", "port: best-effort", "port: first of the early queue",
     "port: idle before an early queue", "arrival stored", "arrival refused", "packet withdrawn",
     "on-time queue of 256", "early queue of 256", "packet moved over", "200 moved over on a port in a tick",
-    "equal keys in a queue", "arrival entered between others", "clock turn",
+    "arrival entered between others", "clock turn",
+    TIE_NAMES(""),
 };
 
 static unsigned long occurred[EVENTS];
 
 /* ---- The queues by a sort ---- */
-
-/* A stored slot as the rules see it. */
-struct seen {
-    int early, key;
-    unsigned slot, mask;
-};
-
-static int in_order(const void *one, const void *other)
-{
-    const struct seen *x = one, *y = other;
-
-    if (x->early != y->early)
-        return x->early - y->early;
-    if (x->key != y->key)
-        return x->key - y->key;
-    return (int)x->slot - (int)y->slot;
-}
-
-/* The stored slots of a state in the comparator's order; says how many. */
-static unsigned sort_slots(uint8_t *bytes, struct seen *seen)
-{
-    int t = bytes[ROUTER_STATE_CLOCK];
-    unsigned n = 0;
-
-    for (unsigned s = 0; s < ROUTER_SLOTS; s++) {
-        const uint8_t *slot = slot_at(bytes, s);
-        int offset = slot[ROUTER_SLOT_TIME] - t;
-
-        if (slot[ROUTER_SLOT_MASK] == 0)
-            continue;
-        offset += offset < -128 ? 256 : offset > 127 ? -256 : 0;
-        seen[n].early = offset > 0;
-        seen[n].key = offset > 0 ? offset : (slot[ROUTER_SLOT_DEADLINE] - t + 256) % 256;
-        seen[n].slot = s;
-        seen[n].mask = slot[ROUTER_SLOT_MASK];
-        n++;
-    }
-    qsort(seen, n, sizeof *seen, in_order);
-    return n;
-}
 
 static uint8_t *queue_at(uint8_t *bytes, unsigned p, unsigned sort)
 {
@@ -98,14 +60,17 @@ static void set_size(uint8_t *queue, unsigned n)
     queue[1] = (uint8_t)(n % 256);
 }
 
-/* The queues of a state, with zero from entry n on. */
+/* The queues of a state, with zero from entry n on. Counts the ties of neighbours in them. */
 static void queues_of(uint8_t *bytes, uint8_t *result)
 {
     struct seen seen[ROUTER_SLOTS];
-    unsigned n = sort_slots(bytes, seen);
+    unsigned n = see_slots(bytes, seen);
 
+    qsort(seen, n, sizeof *seen, in_order);
     memset(result, 0, ROUTER_QUEUES_LEN);
     for (unsigned p = 0; p < ROUTER_PORTS; p++) {
+        const struct seen *next = NULL;
+
         for (unsigned i = n; i-- > 0;) {
             uint8_t *queue = queue_at(result, p, (unsigned)seen[i].early);
 
@@ -113,8 +78,9 @@ static void queues_of(uint8_t *bytes, uint8_t *result)
                 continue;
             queue[ROUTER_QUEUE_ENTRIES + size_at(queue)] = (uint8_t)seen[i].slot;
             set_size(queue, size_at(queue) + 1);
-            occurred[EQUAL_KEYS] += i > 0 && seen[i - 1].mask >> p & 1 && seen[i - 1].early == seen[i].early &&
-                                    seen[i - 1].key == seen[i].key;
+            if (next != NULL)
+                count_tie(&seen[i], next, occurred + TIE);
+            next = &seen[i];
         }
     }
 }
@@ -454,6 +420,21 @@ static void test_ties(void)
     }
 }
 
+/* Runs in which times, or deadlines, are shared, with all delays, on either side of the clock's turn. */
+static void test_shared(void)
+{
+    for (unsigned k = 0; k < TIED_CALLS; k += 40) {
+        struct regime r = random_regime();
+
+        r.offsets = chance(50) ? SHARED_TIMES : SHARED_DEADLINES;
+        r.controls = 2;
+        make_tied(&r, below(257));
+        expect("fill", fill(), ROUTER_ACCEPTED);
+        for (unsigned c = 0; c < 40; c++)
+            random_or_fill(&r);
+    }
+}
+
 /* Random bytes of state and memory changed, while the queues stay. */
 static void test_damaged(void)
 {
@@ -645,7 +626,8 @@ int main(int argc, char **argv)
     section("queues are asked about last", test_order);
     section("every offset and every d", test_offsets);
     section("full and empty queues", test_full);
-    section("equal keys", test_ties);
+    section("ties, of few times and delays", test_ties);
+    section("ties, of shared times and deadlines", test_shared);
     section("long runs from a fresh router", test_long);
     section("random calls from random sound states", test_made);
     section("random damage to state and memory", test_damaged);

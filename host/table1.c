@@ -118,7 +118,9 @@ static void print_heading(const char *name)
            ROUTER_SLOTS - free_count(), free_count());
     printf("Of each queue how many wait, and, first ones first, SLOT:ID KEY of each.\n"
            "ID is the outgoing identifier, in hex. KEY counts ticks: on time to the\n"
-           "deadline, early to the logical arrival time; * is within the horizon.\n");
+           "deadline, early to the logical arrival time; * is within the horizon.\n"
+           "Of equal keys the earlier time comes first in queue 1 and the earlier deadline\n"
+           "in queue 3, and where these are equal too, the lower slot.\n");
 }
 
 static void print_port(unsigned p)

@@ -1,6 +1,7 @@
 /*
  * test.c - compares the router (router_*, from an archive) with the plain implementation, byte for byte over all
- * areas and numbers, and with the router that never turns over; then runs the experiment of document 001, Fig. 10.
+ * areas and numbers, with the order of packets, and with the router that never turns over; then runs the experiment of
+ * document 001, Fig. 10.
  *   test [SEED]
  */
 #define _DEFAULT_SOURCE
@@ -15,6 +16,8 @@
 
 #define EVOLVING_CALLS 2000000u
 #define MADE_CALLS 800000u
+#define TIED_PAIRS 200u /* of each sort and for each clock */
+#define TIED_CALLS 400000u
 #define DAMAGED_CALLS 800000u
 #define WHOLE_TICKS 1200000u
 
@@ -24,10 +27,12 @@ enum event {
     ARRIVAL_0, ARRIVAL_1, ARRIVAL_6, ARRIVAL_7, ARRIVAL_8,
     PORT_0, PORT_1, PORT_2, PORT_3,
     WITHDRAWN, WITHDRAWN_255, MULTICAST_STORED, MULTICAST_AT_ONCE, MULTICAST_IN_PART, SEVERAL_EMPTIED,
-    STORED_256, FULL_AND_FREED, CLOCK_TURN, EQUAL_KEYS, HELD_BACK,
+    STORED_256, FULL_AND_FREED, CLOCK_TURN, HELD_BACK,
     DISPLAY_PART, DISPLAY_NONE,
     WHOLE_TICK, WHOLE_REFUSED, WHOLE_TURN, WHOLE_BELOW_ZERO, FATE_ON_TIME, FATE_EARLY, FATE_WITHDRAWN,
-    EVENTS
+    TIE,
+    WHOLE_TIE = TIE + TIES,
+    EVENTS = WHOLE_TIE + TIES
 };
 
 static const char *const event_name[EVENTS] = {
@@ -36,11 +41,12 @@ static const char *const event_name[EVENTS] = {
     "packet withdrawn", "255 withdrawn on a port in a tick", "multicast packet stored",
     "multicast: several ports in one tick", "multicast: some ports served, others left",
     "several slots emptied in one tick",
-    "256 stored", "arrival gets 8 in a tick that frees a slot", "clock turn", "equal keys (in the ticks sampled)",
+    "256 stored", "arrival gets 8 in a tick that frees a slot", "clock turn",
     "best-effort before an early packet (sampled)",
     "display: a part", "display: none",
     "whole: tick accepted", "whole: call refused", "whole: clock turn", "whole: time below zero",
     "fate: sent on time", "fate: sent early", "fate: withdrawn in its deadline tick",
+    TIE_NAMES(""), TIE_NAMES("whole: "),
 };
 
 static unsigned long occurred[EVENTS];
@@ -52,31 +58,44 @@ static int several(unsigned mask)
     return (mask & (mask - 1)) != 0;
 }
 
-#define EARLY_KEYS 128u  /* keys below are of packets on time */
-#define CONTEST_SAMPLE 16 /* one call in so many is looked at */
+#define CHOICE_SAMPLE 16 /* one tick in so many is looked at */
 
-/* Counts, for the packets stored before the tick, equal best keys and best-effort before an early packet. */
-static void count_contests(void)
+/*
+ * Looks at what the ports of an accepted tick chose among the packets stored before it, where state and memory are of
+ * then. In a tick that stores nothing a port that sends sends the first of these. Counts its ties with the others, and
+ * best-effort before an early packet.
+ */
+static void look_at_choices(uint8_t *state_then, const uint8_t *memory_then, const uint8_t *outgoing,
+                            const uint8_t *answered, unsigned long *ties)
 {
-    uint8_t t = before[STATE][ROUTER_STATE_CLOCK];
+    struct seen seen[ROUTER_SLOTS];
+    unsigned n = see_slots(state_then, seen);
+    int stores = memchr(answered + ROUTER_ANSWERS_ARRIVALS, ROUTER_ARRIVAL_STORED, ROUTER_PORTS) != NULL;
 
     for (unsigned p = 0; p < ROUTER_PORTS; p++) {
-        unsigned best = 2 * EARLY_KEYS, equal = 0;
+        uint8_t code = answered[ROUTER_ANSWERS_PORTS + p];
+        const struct seen *first = NULL;
 
-        for (unsigned s = 0; s < ROUTER_SLOTS; s++) {
-            const uint8_t *slot = slot_at(before[STATE], s);
-            unsigned ahead = (uint8_t)(slot[ROUTER_SLOT_TIME] - t);
-            unsigned key = ahead >= 1 && ahead <= 127 ? EARLY_KEYS + ahead
-                                                      : (uint8_t)(slot[ROUTER_SLOT_DEADLINE] - t);
-
-            if (!(slot[ROUTER_SLOT_MASK] >> p & 1) || key > best)
-                continue;
-            equal = key == best;
-            best = key;
+        for (unsigned i = 0; i < n; i++) {
+            if ((seen[i].mask >> p & 1) != 0 && (first == NULL || in_order(&seen[i], first) < 0))
+                first = &seen[i];
         }
-        occurred[EQUAL_KEYS] += equal;
-        occurred[HELD_BACK] += answers[ROUTER_ANSWERS_PORTS + p] == ROUTER_PORT_BEST_EFFORT &&
-                               best <= EARLY_KEYS + before[STATE][ROUTER_STATE_HORIZONS + p];
+        if (first == NULL || code == ROUTER_PORT_IDLE)
+            continue;
+        if (code == ROUTER_PORT_BEST_EFFORT) {
+            occurred[HELD_BACK] += first->key <= state_then[ROUTER_STATE_HORIZONS + p];
+            continue;
+        }
+        if (memcmp(outgoing + ROUTER_PACKET_LEN * p, memory_then + ROUTER_PACKET_LEN * first->slot,
+                   ROUTER_PACKET_LEN) != 0) {
+            if (!stores)
+                fail("port %u does not send slot %u, which is first", p, first->slot);
+            continue;
+        }
+        for (unsigned i = 0; i < n; i++) {
+            if ((seen[i].mask >> p & 1) != 0 && &seen[i] != first)
+                count_tie(first, &seen[i], ties);
+        }
     }
 }
 
@@ -123,8 +142,8 @@ void after_call(const struct call *c, unsigned number)
 {
     if (c->entry == TICK && number == ROUTER_ACCEPTED) {
         count_tick();
-        if (calls % CONTEST_SAMPLE == 0)
-            count_contests();
+        if (calls % CHOICE_SAMPLE == 0)
+            look_at_choices(before[STATE], before[MEMORY], area[OUTGOING], answers, occurred + TIE);
     }
 }
 
@@ -279,10 +298,11 @@ static void start_one(int offset, unsigned d, unsigned mask, unsigned horizon)
     put_arrival(0, ONE_CONNECTION, offset);
 }
 
-/* Stores packets in slots 9 and 2; that in slot 9 has the smaller key, and is sent. */
-static void higher_slot(int offset_9, unsigned d_9, int offset_2, unsigned d_2)
+/* Stores packets in slots 9 and 2 at this clock, and ticks once: the one in this slot is sent. */
+static void sent_of_two(unsigned clock, unsigned slot, int offset_9, unsigned d_9, int offset_2, unsigned d_2)
 {
     make_sound(0);
+    state[ROUTER_STATE_CLOCK] = (uint8_t)clock;
     memset(state + ROUTER_STATE_HORIZONS, ROUTER_HORIZON_MAX, ROUTER_PORTS);
     for (unsigned s = 0; s < ROUTER_SLOTS; s++)
         state[ROUTER_STATE_STACK + s] = (uint8_t)s;
@@ -292,13 +312,28 @@ static void higher_slot(int offset_9, unsigned d_9, int offset_2, unsigned d_2)
     put_stored(9, offset_9, d_9, 1u << ONE_PORT);
     put_stored(2, offset_2, d_2, 1u << ONE_PORT);
     expect("tick", tick(0, 0), ROUTER_ACCEPTED);
-    expect("slot sent", slot_at(state, 9)[ROUTER_SLOT_MASK], 0);
+    if (memcmp(area[OUTGOING] + ROUTER_PACKET_LEN * ONE_PORT, stored_at(slot), ROUTER_PACKET_LEN) != 0)
+        fail("slot %u is not sent at clock %u", slot, clock);
 }
 
 static void test_choices(void)
 {
-    higher_slot(-3, 10, 0, 8);
-    higher_slot(4, 100, 5, 0);
+    for (unsigned clock = 0; clock < 256; clock++) {
+        /* The smaller key, on time and early. */
+        sent_of_two(clock, 9, -3, 10, 0, 8);
+        sent_of_two(clock, 9, 4, 100, 5, 0);
+        /* One time and one deadline, on time and early: slot 2. */
+        sent_of_two(clock, 2, -5, 12, -5, 12);
+        sent_of_two(clock, 2, 7, 30, 7, 30);
+        /* One deadline, and the time of slot 9 is earlier. */
+        sent_of_two(clock, 9, -6, 13, -5, 12);
+        sent_of_two(clock, 9, -ROUTER_DELAY_MAX, ROUTER_DELAY_MAX, 0, 0);
+        /* One time, and the deadline of slot 9 is earlier: also if it is 127 ticks ahead, and that of slot 2 more. */
+        sent_of_two(clock, 9, 7, 30, 7, 31);
+        sent_of_two(clock, 9, 1, 126, 1, 127);
+        sent_of_two(clock, 9, 126, 1, 126, 2);
+        sent_of_two(clock, 9, 126, 0, 126, 127);
+    }
 
     /* Mask 31: five ports send in one tick, and the slot is next to be taken. */
     start_one(0, 40, ROUTER_MASK_MAX, 0);
@@ -319,6 +354,21 @@ static void test_choices(void)
     expect("port code", answers[ROUTER_ANSWERS_PORTS + ONE_PORT], ROUTER_PORT_ON_TIME);
     expect("outgoing time", area[OUTGOING][ROUTER_PACKET_LEN * ONE_PORT + ROUTER_PACKET_TIME],
            (uint8_t)(ONE_CLOCK + 1 + 40));
+}
+
+/* Two packets of one deadline, on time, and two of one time, early, at every clock. */
+static void test_pairs(void)
+{
+    for (unsigned round = 0; round < 256 * TIED_PAIRS; round++) {
+        unsigned clock = round % 256;
+        int key = edgy(0, ROUTER_DELAY_MAX), low = key - ROUTER_DELAY_MAX;
+        int time_9 = edgy(low, 0), time_2 = edgy(low, 0);
+        int ahead = edgy(1, 126), d_9 = edgy(0, ROUTER_DELAY_MAX), d_2 = edgy(0, ROUTER_DELAY_MAX);
+
+        sent_of_two(clock, time_9 < time_2 ? 9 : 2, time_9, (unsigned)(key - time_9), time_2,
+                    (unsigned)(key - time_2));
+        sent_of_two(clock, d_9 < d_2 ? 9 : 2, ahead, (unsigned)d_9, ahead, (unsigned)d_2);
+    }
 }
 
 /* 256 stored: a packet that passes 6 and 7 gets 8, though the tick frees a slot. */
@@ -385,6 +435,20 @@ static void test_made(void)
         struct regime r = random_regime();
 
         make_sound(chance(20) ? ROUTER_SLOTS - below(6) : below(257));
+        for (unsigned c = 0; c < 20; c++)
+            random_call(&r);
+    }
+}
+
+/* Short runs in which many packets share a deadline, or a time, on either side of the clock's turn. */
+static void test_ties(void)
+{
+    for (unsigned k = 0; k < TIED_CALLS; k += 20) {
+        struct regime r = random_regime();
+
+        r.offsets = chance(50) ? SHARED_TIMES : SHARED_DEADLINES;
+        r.controls = 2;
+        make_tied(&r, below(257));
         for (unsigned c = 0; c < 20; c++)
             random_call(&r);
     }
@@ -549,8 +613,13 @@ static void whole_tick_both(const struct regime *r, int serials)
     uint8_t bytes[AREAS][ODD_LEN_MAX]; /* the other router's arrivals, outgoing and answers */
     uint8_t *lent[AREAS] = {whole_state, whole_memory};
     int64_t time[ROUTER_PORTS], now = whole.clock;
+    int looked_at = serials && below(CHOICE_SAMPLE) == 0;
     unsigned expected, number;
 
+    if (looked_at) {
+        memcpy(before[STATE], whole_state, ROUTER_STATE_LEN);
+        memcpy(before[MEMORY], whole_memory, ROUTER_MEMORY_LEN);
+    }
     for (unsigned i = ARRIVALS; i < AREAS; i++) {
         if (chance(r->odd) && chance(20))
             c.len[i] = below(ODD_LEN_MAX);
@@ -584,6 +653,8 @@ static void whole_tick_both(const struct regime *r, int serials)
     occurred[WHOLE_TURN] += whole_cut(whole.clock) == 0;
     if (serials)
         check_fates(lent[ARRIVALS], time, lent[OUTGOING], lent[ANSWERS], now);
+    if (looked_at)
+        look_at_choices(before[STATE], before[MEMORY], lent[OUTGOING], lent[ANSWERS], occurred + WHOLE_TIE);
 }
 
 static void whole_control_both(const struct regime *r)
@@ -698,9 +769,11 @@ int main(int argc, char **argv)
     section("registers and values of every value", test_registers);
     section("every offset and every d", test_offsets);
     section("choices of a port", test_choices);
+    section("ties of two packets, every clock", test_pairs);
     section("256 stored", test_full);
     section("random calls from a fresh router", test_evolving);
     section("random calls from random sound states", test_made);
+    section("ties, of shared times and deadlines", test_ties);
     section("random damage", test_damaged);
     section("the router that never turns over, and fates", test_whole);
     section("document 001, Fig. 10", test_fig_10);

@@ -84,7 +84,19 @@ static uint8_t arrive(struct whole *w, const uint8_t *packet, int64_t time)
     return ROUTER_ARRIVAL_STORED;
 }
 
-/* The place with the least deadline of those on time that have the port left, or NO_PLACE. */
+/* Of two on time the one with the lesser deadline D goes first; where they have one deadline, the lesser time u. */
+static int before_on_time(const struct whole_place *one, const struct whole_place *other)
+{
+    return one->deadline < other->deadline || (one->deadline == other->deadline && one->time < other->time);
+}
+
+/* Of two early ones that with the lesser time u; where they have one time, the lesser deadline D. */
+static int before_early(const struct whole_place *one, const struct whole_place *other)
+{
+    return one->time < other->time || (one->time == other->time && one->deadline < other->deadline);
+}
+
+/* The first of the places on time that have the port left, the lowest where several are first, or NO_PLACE. */
 static unsigned on_time(const struct whole *w, unsigned port)
 {
     unsigned best = NO_PLACE;
@@ -93,13 +105,13 @@ static unsigned on_time(const struct whole *w, unsigned port)
         const struct whole_place *place = &w->place[s];
 
         if ((place->left >> port & 1) && place->time <= w->clock &&
-            (best == NO_PLACE || place->deadline < w->place[best].deadline))
+            (best == NO_PLACE || before_on_time(place, &w->place[best])))
             best = s;
     }
     return best;
 }
 
-/* The place with the least time of those that have the port left, or NO_PLACE; asked where none is on time. */
+/* The same of the early places; asked where none is on time, and so of all that have the port left. */
 static unsigned earliest(const struct whole *w, unsigned port)
 {
     unsigned best = NO_PLACE;
@@ -107,7 +119,7 @@ static unsigned earliest(const struct whole *w, unsigned port)
     for (unsigned s = 0; s < ROUTER_SLOTS; s++) {
         const struct whole_place *place = &w->place[s];
 
-        if ((place->left >> port & 1) && (best == NO_PLACE || place->time < w->place[best].time))
+        if ((place->left >> port & 1) && (best == NO_PLACE || before_early(place, &w->place[best])))
             best = s;
     }
     return best;
