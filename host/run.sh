@@ -38,8 +38,8 @@ example() {
 }
 
 table1() {
-    (cd "$here/.." && "$build/table1" -t tapes/queues.tape) > "$build/table1.out" &&
-        diff "$here/table1.expected" "$build/table1.out"
+    (cd "$here/.." && "$build/table1" -t tapes/queues.tape && echo && "$build/table1" -t tapes/ties.tape) \
+        > "$build/table1.out" && diff "$here/table1.expected" "$build/table1.out"
 }
 
 # A dump of a router at clock 0 with one packet: slot 0, identifier 21h, time 5, deadline 9, ports 0 and 1.
@@ -185,7 +185,7 @@ step "build table1" $c99 "$here/table1.c" "$build/dump.o" "$build/record.o" "$se
 step "build fault" $c99 "$here/fault.c" "$build/dump.o" "$service" $libs -o "$build/fault"
 step "example" example
 dump > "$build/dump"
-step "table1 of a tape" table1
+step "table1 of tapes" table1
 step "table1 of a dump" table1_of_dump
 step "table1 ends with a word where there is nothing to show" table1_refusals
 step "fault names each fault, and where" fault_examples

@@ -103,6 +103,33 @@ def queues():
         t += tick(26)
     return t + arrival(2, 4, 263) + tick(18)
 
+def ties():
+    """Fives of packets that come in one tick for one port: on time with one deadline, early with one time, or with both one time and one
+    deadline. Each packet has a connection of its own. Ends with such ties on every port."""
+    due = lambda deadline, *times: [(time, deadline - time) for time in times]
+    at = lambda time, *delays: [(time, d) for d in delays]
+    fives = {   # by clock: output port, and time and delay of the packet of each input port
+        0: (0, due(20, 0, -3, -1, -4, -2)), 1: (1, at(30, 9, 5, 8, 1, 7)), 2: (2, at(100, 127, 20, 60, 29, 30)),
+        3: (3, at(3, *[15] * 5)), 4: (4, at(40, *[15] * 5)), 12: (0, due(40, 8, 9, 10, 11, 12)), 13: (1, at(60, 5, 4, 3, 2, 1)),
+        # Across the turn of the clock. Of the ten for port 3 some come later than others and have the earlier time.
+        250: (1, at(252, 8, 1, 6, 3, 4)), 251: (2, at(300, 127, 70, 90, 79, 78)), 252: (3, due(270, 252, 250, 251, 252, 250)),
+        253: (3, due(270, 249, 253, 247, 251, 248)), 258: (0, due(270, 258, 255, 257, 254, 256)),
+        # From here on the horizon is 0, and early packets wait.
+        264: (1, at(290, 9, 5, 8, 1, 7)), 265: (2, at(380, 127, 10, 60, 11, 12)), 266: (4, at(320, *[15] * 5)),
+        267: (3, at(267, *[15] * 5)), 268: (0, due(290, 268, 265, 267, 264, 266)),
+    }
+    t, identifier = horizon(31, 127), 16
+    for n in range(269):
+        if n == 264:
+            t += horizon(31, 0)
+        if n in fives:
+            port, five = fives[n]
+            for p, (time, d) in enumerate(five):
+                t += connect(identifier + p, identifier + p, d, 1 << port) + arrival(p, identifier + p, time)
+            identifier += 8
+        t += tick()
+    return t
+
 def empty():
     """Nothing, so nothing is printed."""
     return b""
@@ -180,7 +207,7 @@ def chance(seed, n):
         count += 1
     return b"".join(out)
 
-TAPES = {make.__name__.replace("_", "-"): make for make in (refusals, turns, full, multicast, withdrawals, best_effort, queues, empty, rest, blocks)}
+TAPES = {make.__name__.replace("_", "-"): make for make in (refusals, turns, full, multicast, withdrawals, best_effort, queues, ties, empty, rest, blocks)}
 TAPES.update({f"ticks-{n}": lambda n=n: ticks(n) for n in (1, PAGE, PAGE + 1, 2 * PAGE, 2 * PAGE + 1)})
 TAPES.update({"ticks-0": no_ticks, "ticks-62-rest": lambda: ticks(PAGE) + record(0x44) + tick(32) + tick()[:23]})
 MADE = {"long": lambda n: chance(n, n), "numbers": lambda n: record(0) * n, "far": far,
