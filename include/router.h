@@ -46,6 +46,15 @@
  * The clock counts ticks and turns over at 256, as do all sums and differences of times. The offset of a time is
  * (time - clock) read as a signed byte, -128 to 127. A packet is on time if the offset of its logical arrival
  * time is at most 0, and early if it is above 0.
+ *
+ *
+ * ORDER
+ *
+ * Of the packets that wait for a port, those on time go before the early ones. With t the clock:
+ *   - on time the least deadline - t goes first, and of equal ones the least offset of the time, so the earliest time;
+ *   - early the least time - t goes first, and of equal ones the least deadline - t, so the earliest deadline.
+ * Of packets with one time and one deadline the lowest slot goes first. The differences are 0 to 255, without a sign:
+ * an early packet's deadline can be 254 ticks ahead.
  */
 #ifndef ROUTER_H
 #define ROUTER_H
@@ -62,7 +71,7 @@ extern "C" {
  * a call does, returns or needs, or with the layout of an area, so that a caller has to look; the second with what is
  * only added; the third with anything else.
  */
-#define ROUTER_VERSION_MAJOR 2
+#define ROUTER_VERSION_MAJOR 3
 #define ROUTER_VERSION_MINOR 0
 #define ROUTER_VERSION_PATCH 0
 #define ROUTER_VERSION (ROUTER_VERSION_MAJOR * 10000 + ROUTER_VERSION_MINOR * 100 + ROUTER_VERSION_PATCH)
@@ -225,11 +234,10 @@ uint8_t router_control(uint8_t *state, size_t state_len,
  *      takes the top idle address. Its slot gets its time, deadline = time + d, and the entry's mask; the memory
  *      gets the packet with the outgoing identifier and the deadline in the place of identifier and time. A
  *      refused arrival changes nothing but its answer, and the tick goes on.
- *   2. Each port looks at the slots whose mask has it. Of the packets on time the one with the least deadline - t
+ *   2. Each port looks at the slots whose mask has it. Of the packets on time the one that goes first (see ORDER)
  *      is sent, ROUTER_PORT_ON_TIME. If there is none: where best_effort_mask has the port, best-effort traffic
- *      has it, ROUTER_PORT_BEST_EFFORT. Else of the early packets the one with the least time - t is sent if
- *      that is at most the port's horizon, ROUTER_PORT_EARLY. Else ROUTER_PORT_IDLE. Among equals the lower
- *      slot wins.
+ *      has it, ROUTER_PORT_BEST_EFFORT. Else of the early packets the one that goes first is sent if its time - t
+ *      is at most the port's horizon, ROUTER_PORT_EARLY. Else ROUTER_PORT_IDLE.
  *   3. A sent packet is copied from memory to its port in outgoing; a port without a packet gets 20 zero bytes.
  *      The port leaves the slot's mask; a packet for several ports stays until each of them is served.
  *   4. A packet with ports still to serve and deadline t is withdrawn: it counts one for each of these ports in
@@ -283,16 +291,16 @@ uint16_t router_fault(const uint8_t *state, size_t state_len,
 
 /*
  * THE QUEUE ENGINE, of libservice.a: the router as the table of its scheduling model has it, with three queues for
- * each port. Queue 1 has the packets on time, the least deadline - t first; queue 2 is best-effort traffic, of which
- * the router knows only that it waits; queue 3 has the early packets, the least time - t first. Among equals the lower
- * slot is first. A port sends the first of queue 1; else queue 2 has it, where it waits; else it sends the first of
- * queue 3, if that is within its horizon. A packet moves from queue 3 to queue 1 when its logical arrival time comes.
+ * each port. Queue 1 has the packets on time and queue 3 the early ones, as ORDER puts them; queue 2 is best-effort
+ * traffic, of which the router knows only that it waits. A port sends the first of queue 1; else queue 2 has it, where
+ * it waits; else it sends the first of queue 3, if that is within its horizon. A packet moves from queue 3 to queue 1
+ * when its logical arrival time comes.
  *
  * Queues 1 and 3 of all ports lie in a third area of the caller, the queues, so that anybody can read them there at
  * any time. router_queues_fill fills them from a sound state; from then on router_queues_control and
  * router_queues_tick, called in the place of router_control and router_tick, keep them, and do to all other areas, and
- * return, what these do. After each of the three every queue has exactly the stored slots of its port and sort, in the
- * order above.
+ * return, what these do. After each of the three every queue has exactly the stored slots of its port and sort, in that
+ * order.
  * Whoever changes the state or the memory in another way, by router_fresh or router_tick for instance, fills the queues
  * again before the next call of the engine. router_control may come in between: it changes no stored packet.
  *
