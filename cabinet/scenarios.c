@@ -535,37 +535,59 @@ static void sharp_limit(void)
 }
 
 /*
- * ---- (f) Equal keys, (g) a full memory ----
+ * ---- (f) Ties, (g) a full memory ----
  *
  * Each neighbour of a board hands over a packet in one tick, and the board itself one in the next, so that five come to
- * it at once. They have equal times and delays, and all are for its local port. The first byte of data has the port
- * that a packet comes by.
+ * it at once, all for its local port. The packet that comes by port p has identifier id + p; the first byte of its data
+ * is p + 1, or 0 if it is only there to hold the others up.
  */
 
 #define MEET_BOARD 5
 #define MEET_ID 1
+#define HOLD_ID (MEET_ID + ROUTER_PORTS)
 #define MEET_DELAY 20
 #define MEET_ROUNDS 51        /* of five packets, which leave one slot */
 #define MEET_DELAY_BEFORE 110 /* more than the ticks of so many rounds */
+#define CLOCK_TURN 256
+
+/* The delays of the packet that comes by each port: on the board before, which makes its time, and on this one. */
+struct delays {
+    uint8_t before[ROUTER_PORTS], here[ROUTER_PORTS];
+};
 
 static struct board *const meet_board = &run.mesh.board[MEET_BOARD];
 
-static void meet_begin(uint8_t delay_before, uint8_t horizon)
+static struct delays same_delays(uint8_t before, uint8_t here)
 {
-    mesh_fresh(&run.mesh, 0);
-    mesh_horizon(&run.mesh, horizon);
-    for (int b = 0; b < BOARDS; b++) {
-        for (int p = PLUS_X; p < ROUTER_PORTS; p++) {
-            if (neighbour(b, p) == MEET_BOARD)
-                mesh_connect(&run.mesh, b, MEET_ID, MEET_ID, delay_before, (uint8_t)(1u << p));
-        }
-    }
-    mesh_connect(&run.mesh, MEET_BOARD, MEET_ID, MEET_ID, MEET_DELAY, 1u << LOCAL);
+    struct delays d;
+
+    memset(d.before, before, sizeof d.before);
+    memset(d.here, here, sizeof d.here);
+    return d;
 }
 
-static void meet_inject(int board, int port, long time)
+static void meet_begin(uint8_t clock, uint8_t horizon)
 {
-    uint8_t packet[ROUTER_PACKET_LEN] = {MEET_ID, (uint8_t)time, (uint8_t)port};
+    mesh_fresh(&run.mesh, clock);
+    mesh_horizon(&run.mesh, horizon);
+}
+
+static void meet_connect(uint8_t id, const struct delays *d)
+{
+    for (uint8_t p = LOCAL; p < ROUTER_PORTS; p++) {
+        uint8_t own = (uint8_t)(id + p);
+
+        mesh_connect(&run.mesh, MEET_BOARD, own, own, d->here[p], 1u << LOCAL);
+        for (int back = PLUS_X; p != LOCAL && back < ROUTER_PORTS; back++) {
+            if (neighbour(neighbour(MEET_BOARD, p), back) == MEET_BOARD)
+                mesh_connect(&run.mesh, neighbour(MEET_BOARD, p), own, own, d->before[p], (uint8_t)(1u << back));
+        }
+    }
+}
+
+static void meet_inject(int board, uint8_t id, int port, long time)
+{
+    uint8_t packet[ROUTER_PACKET_LEN] = {(uint8_t)(id + port), (uint8_t)time, (uint8_t)(id == MEET_ID ? port + 1 : 0)};
 
     mesh_inject(&run.mesh, board, packet);
 }
@@ -577,14 +599,14 @@ static void meet_tick(void)
 }
 
 /* Lays a packet on each port of the board for the coming tick. */
-static void meet(uint8_t delay_before)
+static void meet(uint8_t id, const struct delays *d)
 {
     long now = run.mesh.now;
 
     for (int p = PLUS_X; p < ROUTER_PORTS; p++)
-        meet_inject(neighbour(MEET_BOARD, p), p, now);
+        meet_inject(neighbour(MEET_BOARD, p), id, p, now);
     meet_tick();
-    meet_inject(MEET_BOARD, LOCAL, now + delay_before);
+    meet_inject(MEET_BOARD, id, LOCAL, now + d->before[LOCAL]);
 }
 
 /* The ports, counted from 1, by which the packets came that the board sends with this code, the first sent first. */
@@ -595,7 +617,7 @@ static long meet_order(uint8_t code)
     for (int i = 0; i < 2 * MEET_DELAY; i++) {
         meet_tick();
         if (meet_board->answers[ROUTER_ANSWERS_PORTS + LOCAL] == code)
-            order = 10 * order + meet_board->outgoing[ROUTER_PACKET_LEN * LOCAL + ROUTER_PACKET_DATA] + 1;
+            order = 10 * order + meet_board->outgoing[ROUTER_PACKET_LEN * LOCAL + ROUTER_PACKET_DATA];
     }
     return order;
 }
@@ -604,29 +626,78 @@ static long meet_order(uint8_t code)
  * On a fresh board port 0 gets slot 0, port 1 slot 1, and so on. They are given back one by one, slot 4 last, so that
  * in a second round port 0 gets slot 4, and port 4 slot 0.
  */
-static void equal_keys(void)
+static void ties_by_slot(void)
 {
     static const struct {
         const char *name;
         uint8_t horizon, code;
     } kinds[] = {{"(f) on time", 0, ROUTER_PORT_ON_TIME}, {"(f) early", MEET_DELAY, ROUTER_PORT_EARLY}};
+    struct delays d = same_delays(MEET_DELAY, MEET_DELAY);
 
     for (int i = 0; i < 2; i++) {
         long first, second;
 
-        meet_begin(MEET_DELAY, kinds[i].horizon);
-        meet(MEET_DELAY);
+        meet_begin(0, kinds[i].horizon);
+        meet_connect(MEET_ID, &d);
+        meet(MEET_ID, &d);
         first = meet_order(kinds[i].code);
-        meet(MEET_DELAY);
+        meet(MEET_ID, &d);
         second = meet_order(kinds[i].code);
-        claim(kinds[i].name, "of five with equal keys the lower slot is sent first", first == 12345);
+        claim(kinds[i].name, "of five with one time and one deadline the lower slot is sent first", first == 12345);
         claim(kinds[i].name, "so it is where the slots were taken in falling order", second == 54321);
     }
 }
 
+/* Five of one deadline, whose times rise with their rank. Five others hold them up until all are on time. */
+static long one_deadline(uint8_t clock, const int *rank)
+{
+    struct delays d, hold = same_delays(1, ROUTER_PORTS);
+
+    for (int p = LOCAL; p < ROUTER_PORTS; p++) {
+        d.before[p] = (uint8_t)rank[p];
+        d.here[p] = (uint8_t)(MEET_DELAY - rank[p]);
+    }
+    meet_begin(clock, 0);
+    meet_connect(MEET_ID, &d);
+    meet_connect(HOLD_ID, &hold);
+    meet(HOLD_ID, &hold);
+    meet(MEET_ID, &d);
+    return meet_order(ROUTER_PORT_ON_TIME);
+}
+
+/* Five of one time, whose deadlines rise with their rank and lie about half a turn of the clock ahead. */
+static long one_time(uint8_t clock, const int *rank)
+{
+    struct delays d = same_delays(MEET_DELAY, 0);
+
+    for (int p = LOCAL; p < ROUTER_PORTS; p++)
+        d.here[p] = (uint8_t)(CLOCK_TURN / 2 - MEET_DELAY - 2 + rank[p]);
+    meet_begin(clock, MEET_DELAY);
+    meet_connect(MEET_ID, &d);
+    meet(MEET_ID, &d);
+    return meet_order(ROUTER_PORT_EARLY);
+}
+
+/* Of any two ports, and so of any two slots, each goes first in one of the two rows; at every clock. */
+static void ties_by_time_or_deadline(void)
+{
+    static const int rank[2][ROUTER_PORTS] = {{3, 1, 4, 0, 2}, {1, 3, 0, 4, 2}};
+    static const long order[2] = {42513, 31524};
+    int by_time = 1, by_deadline = 1;
+
+    for (int clock = 0; clock < CLOCK_TURN; clock++) {
+        for (int i = 0; i < 2; i++) {
+            by_time &= one_deadline((uint8_t)clock, rank[i]) == order[i];
+            by_deadline &= one_time((uint8_t)clock, rank[i]) == order[i];
+        }
+    }
+    claim("(f) on time", "of five with one deadline the earliest time is sent first, whatever their slots", by_time);
+    claim("(f) early", "of five with one time the earliest deadline is sent first, whatever their slots", by_deadline);
+}
+
 static uint8_t meet_answer(void)
 {
-    meet_inject(MEET_BOARD, LOCAL, run.mesh.now + MEET_DELAY_BEFORE);
+    meet_inject(MEET_BOARD, MEET_ID, LOCAL, run.mesh.now + MEET_DELAY_BEFORE);
     meet_tick();
     return meet_board->answers[ROUTER_ANSWERS_ARRIVALS + LOCAL];
 }
@@ -634,11 +705,13 @@ static uint8_t meet_answer(void)
 static void full_memory(void)
 {
     const struct account *a = &meet_board->account;
+    struct delays d = same_delays(MEET_DELAY_BEFORE, MEET_DELAY);
     int full = 1;
 
-    meet_begin(MEET_DELAY_BEFORE, 0);
+    meet_begin(0, 0);
+    meet_connect(MEET_ID, &d);
     for (int i = 0; i < MEET_ROUNDS; i++) {
-        meet(MEET_DELAY_BEFORE);
+        meet(MEET_ID, &d);
         meet_tick();
     }
     claim("(g)", "a board stores 255 packets, and none is sent",
@@ -733,7 +806,8 @@ int main(int argc, char **argv)
     overload(lengths->overload);
     turn_of_clock(lengths->turn);
     sharp_limit();
-    equal_keys();
+    ties_by_slot();
+    ties_by_time_or_deadline();
     full_memory();
     figure_10();
     if (argc > 2) {
