@@ -648,13 +648,13 @@ static void ties_by_slot(void)
     }
 }
 
-/* Five of one deadline, whose times rise with their rank. Five others hold them up until all are on time. */
+/* Five of one deadline, whose times rise with their rank. Five others hold them up until the last time has come. */
 static long one_deadline(uint8_t clock, const int *rank)
 {
     struct delays d, hold = same_delays(1, ROUTER_PORTS);
 
     for (int p = LOCAL; p < ROUTER_PORTS; p++) {
-        d.before[p] = (uint8_t)rank[p];
+        d.before[p] = (uint8_t)(1 + rank[p]);
         d.here[p] = (uint8_t)(MEET_DELAY - rank[p]);
     }
     meet_begin(clock, 0);
