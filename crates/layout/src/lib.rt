@@ -195,12 +195,12 @@ pub struct SlotTimes {
     pub deadline: ClockReading,
 }
 
-// Both, which stand side by side, with one test of the length.
+// Both, with one test of the length, which is the same for every slot.
 pub fn times(state: &[u8], s: SlotAddress) -> SlotTimes
     ensures { λ r. ⌜ (r .time .0 ≡ board8 .get (now (state .entry)) (Time, s .0)) × (r .deadline .0 ≡ board8 .get (now (state .entry)) (Deadline, s .0)) ⌝ }
 {
     let at = place(Field::Time(s));
-    if at + 1 < state.len() {
+    if Router::STATE <= state.len() {
         return SlotTimes {
             time: ClockReading(state[at]),
             deadline: ClockReading(state[at + 1]),

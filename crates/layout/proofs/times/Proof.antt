@@ -24,7 +24,6 @@ times-spec =
     tie.close
     (tie.spec
     (λ c κs. search needs) (λ c. search needs) (λ c. search needs) (λ c. search needs)
-    (λ c. search needs)
     returns
     (λ c κs. search needs) (λ c κs. search needs)
     returns-2)
