@@ -18,7 +18,7 @@ use Rattle.rules.specs.Clock.{plus, minus, offset}
 use Rattle.rules.specs.Order.{better, least, by, then, Key, onTimeFirst, comparator, counted}
 use Rattle.rules.specs.Areas.{bits, half, has, Grant, nobody, bestEffort, onTime, early}
 use Rattle.rules.specs.Board.{Board, Horizon, Time, Deadline, Mask, clock}
-use Rattle.rules.specs.Tick.{isEarly, granted, slotKey, candidate, grant}
+use Rattle.rules.specs.Tick.{isEarly, granted, slotKeyOf, slotKey, candidate, grant}
 use Rattle.rules.proofs.Booleans.{some-inj, none-some}
 use Rattle.rules.proofs.ClockLaws.{minus-lt}
 use Rattle.rules.proofs.IndexLaws.{least-in}
@@ -78,13 +78,10 @@ module _ (B : Board) where
     unfolding comparator then by onTimeFirst slotKey counted
     digits-order i j = go (isEarly B s i) (isEarly B s j)
       where
-        key : Bool → ℕ → Key
-        key e i = record { early = e; key = pos (firstDigit B e s i); second = cond e (pos (minus (bits c) (get s (Deadline, i)) (get s clock))) (offset (bits c) (get s (Time, i)) (get s clock)) }
-
         sorted : (e d : Bool)
             → (ltb (counted e) (counted d) || (not (ltb (counted d) (counted e)) && ltb (firstDigit B e s i) (firstDigit B d s j))
             || (not (ltb (counted d) (counted e) || (not (ltb (counted e) (counted d)) && ltb (firstDigit B d s j) (firstDigit B e s i))) && ltb (secondDigit B e s i) (secondDigit B d s j)))
-            ≡ comparator (key e i) (key d j)
+            ≡ comparator (slotKeyOf B e s i) (slotKeyOf B d s j)
         sorted true true = refl
         sorted true false = refl
         sorted false true = refl
@@ -92,7 +89,7 @@ module _ (B : Board) where
 
         go : (e d : Bool)
             → ltb ((counted e * turn B + firstDigit B e s i) * turn B + secondDigit B e s i) ((counted d * turn B + firstDigit B d s j) * turn B + secondDigit B d s j)
-            ≡ comparator (key e i) (key d j)
+            ≡ comparator (slotKeyOf B e s i) (slotKeyOf B d s j)
         go e d =
             rw (
               two-digits (turn B) (counted e * turn B + firstDigit B e s i) (counted d * turn B + firstDigit B d s j) (secondDigit B e s i) (secondDigit B d s j) (second-lt e i) (second-lt d j),

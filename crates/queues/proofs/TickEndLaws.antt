@@ -2,7 +2,7 @@
 -- comparator's order of the others is still the same. Told of the packets that the slots show, whose times are whole numbers. Assumes nothing.
 use Prim.Native.Nat.{ℕ, suc, _-_, _<_}
 use mathlib.Core.Path.{_≡_, refl, sym, ap, ap₂, subst, _∙_}
-use mathlib.Core.Bool.{Bool, true, false, cond, not, _&&_, _||_, true≢false, Bool·beq, and-true, and-false, Bool·not-not}
+use mathlib.Core.Bool.{Bool, true, false, not, _&&_, _||_, true≢false, Bool·beq, and-true, and-false, Bool·not-not}
 use mathlib.Core.List.{List}
 use mathlib.Core.Option.{Option, none, some}
 use native.Mathlib.Omega.{arith}
@@ -16,7 +16,7 @@ use Rattle.rules.specs.Board.{Board, Mask, clock}
 use Rattle.rules.specs.Demand3.{HeldShown}
 use Rattle.rules.specs.Order.{Key, by, comparator}
 use Rattle.rules.specs.Tick.{isEarly, slotKey, isDue as isDueNow, arrived, served, ticked}
-use Rattle.rules.specs.Whole.{Packet, Held, Router, TickCall, isDue, remaining, packetKey}
+use Rattle.rules.specs.Whole.{Packet, Held, Router, TickCall, isDue, remaining, packetKeyOf, packetKey}
 use Rattle.rules.specs.Whole as Whole
 use Rattle.rules.proofs.BoardLaws.{Laws}
 use Rattle.rules.proofs.Booleans.{true→T, T→true, and-left, and-right, and-both, not-false}
@@ -55,12 +55,8 @@ goes-not-back k l t e = go (comparator k l) (comparator l k) refl refl e
     go a false p q e = q
     go false true p q e = absurd (true≢false (sym e))
 
--- The key of a packet of either sort, a time or a deadline.
-abbrev keyOf : Bool → Packet → ℤ
-keyOf e x = cond e (x .time) (x .deadline)
-
 -- Of packets of one sort, what another doesn't go before has no later key.
-key-no-later : (t : ℤ) (x y : Packet) (e : Bool) → ltZ t (x .time) ≡ e → ltZ t (y .time) ≡ e → by (packetKey t) comparator y x ≡ false → T (leZ (keyOf e x) (keyOf e y))
+key-no-later : (t : ℤ) (x y : Packet) (e : Bool) → ltZ t (x .time) ≡ e → ltZ t (y .time) ≡ e → by (packetKey t) comparator y x ≡ false → T (leZ (packetKeyOf e x .key) (packetKeyOf e y .key))
 key-no-later t x y true p q n = first-no-later _ _ _ _ (not-before t y x true true q p n)
 key-no-later t x y false p q n = first-no-later _ _ _ _ (not-before t y x false false q p n .1)
 
@@ -92,7 +88,7 @@ module _ (B : Board) (L : Laws B) where
 
   module _ {s : List ℕ} {t : ℤ} {i j : ℕ} {x y : Packet} (S : Shows s t i x) (S′ : Shows s t j y) where
     -- Of slots of one sort, the one that goes before has no later key.
-    keys-ordered : (e : Bool) → isEarly B s i ≡ e → isEarly B s j ≡ e → before B s i j ≡ true → T (leZ (keyOf e x) (keyOf e y))
+    keys-ordered : (e : Bool) → isEarly B s i ≡ e → isEarly B s j ≡ e → before B s i j ≡ true → T (leZ (packetKeyOf e x .key) (packetKeyOf e y .key))
     unfolding by
     keys-ordered e p q h =
         let b = goes-not-back (slotKey B s i) (slotKey B s j) (ltb i j) (sym (before-goes B s i j) ∙ h) in

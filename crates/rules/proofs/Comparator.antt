@@ -2,16 +2,16 @@
 -- sorts, the clock does not change their order. Assumes nothing.
 use Prim.Native.Nat.{ℕ}
 use mathlib.Core.Path.{_≡_, refl, sym, ap, ap₂, _∙_}
-use mathlib.Core.Bool.{Bool, true, false, cond}
+use mathlib.Core.Bool.{Bool, true, false}
 use mathlib.Core.List.{List}
 use lib.IntN.{ℤ, pos, _-ℤ_}
 use lib.Signed.{ltZ}
 use Rattle.rules.specs.Areas.{bits, half}
 use Rattle.rules.specs.Board.{Board, Time, Deadline, clock}
-use Rattle.rules.specs.Clock.{cut, minus, offset}
+use Rattle.rules.specs.Clock.{cut}
 use Rattle.rules.specs.Order.{by, then, Key, comparator}
-use Rattle.rules.specs.Tick.{slotKey}
-use Rattle.rules.specs.Whole.{Packet, packetKey}
+use Rattle.rules.specs.Tick.{isEarly, slotKeyOf, slotKey}
+use Rattle.rules.specs.Whole.{Packet, packetKeyOf, packetKey}
 use Rattle.rules.proofs.Booleans.{true→T}
 use Rattle.rules.proofs.Integers.{diff-gt, diff-lt}
 use Rattle.rules.proofs.Good.{InWindow}
@@ -26,11 +26,7 @@ pub comparator-less-clock : (t : ℤ) (k l : Key) → comparator (lessClock t k)
 unfolding comparator then by
 comparator-less-clock t k l = simp diff-lt
 
--- What the comparator sees of a packet of either sort.
-abbrev keyOf : Bool → Packet → Key
-keyOf e x = record { early = e; key = cond e (x .time) (x .deadline); second = cond e (x .deadline) (x .time) }
-
--- What it sees of a packet at the clock.
+-- What the comparator sees of a slot that shows the packet.
 abbrev pub shownKey : ℤ → Packet → Key
 shownKey t x = lessClock t (packetKey t x)
 
@@ -38,7 +34,7 @@ shownKey t x = lessClock t (packetKey t x)
 pub comparator-still : (t u : ℤ) (x y : Packet) → ltZ t (x .time) ≡ ltZ u (x .time) → ltZ t (y .time) ≡ ltZ u (y .time) → comparator (shownKey t x) (shownKey t y) ≡ comparator (shownKey u x) (shownKey u y)
 comparator-still t u x y p q =
     comparator-less-clock t (packetKey t x) (packetKey t y)
-    ∙ ap₂ (λ (d e : Bool). comparator (keyOf d x) (keyOf e y)) p q
+    ∙ ap₂ (λ (d e : Bool). comparator (packetKeyOf d x) (packetKeyOf e y)) p q
     ∙ sym (comparator-less-clock u (packetKey u x) (packetKey u y))
 
 module _ (B : Board) where
@@ -48,20 +44,11 @@ module _ (B : Board) where
   pub slot-key : (s : List ℕ) (i : ℕ) (t : ℤ) (x : Packet) → get s clock ≡ cut (bits c) t → get s (Time, i) ≡ cut (bits c) (x .time) → get s (Deadline, i) ≡ cut (bits c) (x .deadline)
       → InWindow c t (half c) x → slotKey B s i ≡ shownKey t x
   unfolding slotKey
-  slot-key s i t x et eu ed F = rw (et, eu, ed) (ap seen (ap (ltZ (pos 0)) (window-offset c t x F) ∙ diff-gt (x .time) t) ∙ go (ltZ t (x .time)) refl)
+  slot-key s i t x et eu ed F = ap (λ (e : Bool). slotKeyOf B e s i) sort ∙ go (ltZ t (x .time)) refl
     where
-      now : ℕ
-      now = cut (bits c) t
+      sort : isEarly B s i ≡ ltZ t (x .time)
+      sort = rw (et, eu) (ap (ltZ (pos 0)) (window-offset c t x F) ∙ diff-gt (x .time) t)
 
-      u : ℕ
-      u = cut (bits c) (x .time)
-
-      d : ℕ
-      d = cut (bits c) (x .deadline)
-
-      seen : Bool → Key
-      seen e = record { early = e; key = pos (minus (bits c) (cond e u d) now); second = cond e (pos (minus (bits c) d now)) (offset (bits c) u now) }
-
-      go : (e : Bool) → ltZ t (x .time) ≡ e → seen e ≡ lessClock t (keyOf e x)
-      go true q = ap₂ (λ (k l : ℤ). record { early = true; key = k; second = l }) (window-early c t x F (true→T (ltZ t (x .time)) q)) (window-deadline c t x F)
-      go false q = ap₂ (λ (k l : ℤ). record { early = false; key = k; second = l }) (window-deadline c t x F) (window-offset c t x F)
+      go : (e : Bool) → ltZ t (x .time) ≡ e → slotKeyOf B e s i ≡ lessClock t (packetKeyOf e x)
+      go true q = rw (et, eu, ed) (ap₂ (λ (k l : ℤ). record { early = true; key = k; second = l }) (window-early c t x F (true→T (ltZ t (x .time)) q)) (window-deadline c t x F))
+      go false q = rw (et, eu, ed) (ap₂ (λ (k l : ℤ). record { early = false; key = k; second = l }) (window-deadline c t x F) (window-offset c t x F))

@@ -10,8 +10,8 @@ use lib.IntN.{ℤ, pos, _-ℤ_}
 use lib.Signed.{leZ, ltZ}
 use Rattle.rules.specs.Account.{NoLater}
 use Rattle.rules.specs.Areas.{has, Grant, nobody, bestEffort, onTime, early}
-use Rattle.rules.specs.Order.{least, Order, by, then, Key, onTimeFirst, comparator}
-use Rattle.rules.specs.Whole.{Packet, Held, Router, toServe, packetKey, granted, grant}
+use Rattle.rules.specs.Order.{least, Order, by, then, onTimeFirst, comparator}
+use Rattle.rules.specs.Whole.{Packet, Held, Router, toServe, packetKeyOf, packetKey, granted, grant}
 use Rattle.rules.proofs.Booleans.{some-inj, none-some, true→T, T→true}
 use Rattle.rules.proofs.IndexLaws.{least-in}
 use Rattle.rules.proofs.OrderLaws.{fails, strict-by, strict-comparator, least-beats}
@@ -51,10 +51,7 @@ pub not-before : (t : ℤ) (x y : Packet) (a b : Bool) → ltZ t (x .time) ≡ a
 unfolding by comparator then onTimeFirst
 not-before t x y a b p q n = go a b (rw (sym p, sym q) n)
   where
-    seen : Bool → Packet → Key
-    seen e x = record { early = e; key = cond e (x .time) (x .deadline); second = cond e (x .deadline) (x .time) }
-
-    go : (a b : Bool) → comparator (seen a x) (seen b y) ≡ false → Behind x y a b
+    go : (a b : Bool) → comparator (packetKeyOf a x) (packetKeyOf b y) ≡ false → Behind x y a b
     go false true n = absurd (true≢false n)
     go false false n = (refl, no-later (x .deadline) (x .time) (y .deadline) (y .time) n)
     go true true n = no-later (x .time) (x .deadline) (y .time) (y .deadline) n

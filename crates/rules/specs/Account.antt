@@ -86,7 +86,7 @@ pub record Unserved (before : List NotedTick) (d : NotedTick) (p : ℕ) (x : Pac
 abbrev pub NoneOnTime : List NotedTick → NotedTick → ℕ → Type 0
 NoneOnTime before d p = (x : Packet) → Unserved before d p x → d .met .clock <ℤ x .time
 
--- Of two pairs of times, the first is earlier, or the same and the second no later.
+-- The times (a, b) are no later than (d, e): a is earlier, or the same and b no later.
 abbrev pub NoLater : ℤ × ℤ → ℤ × ℤ → Type 0
 NoLater (a, b) (d, e) = (a <ℤ d) ⊎ ((a ≡ d) × (b ≤ℤ e))
 

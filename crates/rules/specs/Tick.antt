@@ -64,13 +64,15 @@ module _ (B : Board) where
   abbrev pub ahead : List ℕ → ℕ → ℤ
   ahead s x = pos (minus (bits c) x (get s clock))
 
-  -- On time, the key is deadline - t, and the second key the time's offset; early, the key is time - t, and the second key deadline - t.
-  unfoldable pub slotKey : List ℕ → ℕ → Key
-  slotKey s i =
-      let e = isEarly s i in
+  -- What the comparator sees of slot i, early if e: on time, the key is deadline - t, and the second key the time's offset; early, the key is time - t, and the second key deadline - t.
+  abbrev pub slotKeyOf : Bool → List ℕ → ℕ → Key
+  slotKeyOf e s i =
       let u = get s (Time, i) in
       let d = get s (Deadline, i) in
       record { early = e; key = ahead s (cond e u d); second = cond e (ahead s d) (offset (bits c) u (get s clock)) }
+
+  unfoldable pub slotKey : List ℕ → ℕ → Key
+  slotKey s i = slotKeyOf (isEarly s i) s i
 
   -- Each port looks at the slots whose mask has it.
   unfoldable pub candidate : List ℕ → ℕ → ℕ → Option Key

@@ -88,9 +88,13 @@ unfoldable pub toServe : Option Held → ℕ → Option Packet
 toServe none p = none
 toServe (some x) p = cond (has (x .left) p) (some (x .packet)) none
 
--- What the comparator sees of a packet at the clock T: on-time packets go by their deadlines, then their times; early ones by their times, then their deadlines.
+-- What the comparator sees of a packet, early if e: on-time packets go by their deadlines, then their times; early ones by their times, then their deadlines.
+abbrev pub packetKeyOf : Bool → Packet → Key
+packetKeyOf e x = record { early = e; key = cond e (x .time) (x .deadline); second = cond e (x .deadline) (x .time) }
+
+-- At the clock T.
 abbrev pub packetKey : ℤ → Packet → Key
-packetKey T x = let e = ltZ T (x .time) in record { early = e; key = cond e (x .time) (x .deadline); second = cond e (x .deadline) (x .time) }
+packetKey T x = packetKeyOf (ltZ T (x .time)) x
 
 -- From the winner, best-effort's wait, the clock and the horizon.
 unfoldable pub granted : Option (ℕ × Packet) → Bool → ℤ → ℕ → Grant (ℕ × Packet)
