@@ -26,7 +26,7 @@ use Rattle.rules.proofs.Integers.{ltb-iff}
 use Rattle.rules.proofs.Masks.{has-zero}
 use Rattle.rules.proofs.Offsets.{above, raised-order}
 use Rattle.passes.specs.Ports.{EachPort, changed}
-use Rattle.passes.specs.Ranks.{lesser, turn, firstDigit, secondDigit, keyDigits, slotRank, earlyRanks, noRank, rankOf, best, bound}
+use Rattle.passes.specs.Ranks.{lesser, turn, firstDigit, secondDigit, keyDigitsOf, keyDigits, slotRank, earlyRanks, noRank, rankOf, best, bound}
 use Rattle.passes.proofs.MaskPorts.{has-low}
 
 -- ---- numbers of two digits
@@ -58,6 +58,26 @@ high-digit n x m a h =
     let z : m * n ≡ m * n + 0 = omega arith in
     ap (ltb (x * n + a)) z ∙ two-digits n x m a 0 h (omega arith) ∙ rw (le-ltb a 0 (omega arith)) (only-first (ltb x m) (ltb m x))
 
+-- ---- numbers of three digits
+
+-- What the comparator may see of a packet: early if e, and two keys from 0 on.
+abbrev keys : Bool → ℕ → ℕ → Key
+keys e a k = record { early = e; key = pos a; second = pos k }
+
+-- As digits they go as it has them: by the sort, by the key, then by the second key.
+three-digits : (n : ℕ) (e d : Bool) (a b k l : ℕ) → a < n → b < n → k < n → l < n → ltb ((counted e * n + a) * n + k) ((counted d * n + b) * n + l) ≡ comparator (keys e a k) (keys d b l)
+unfolding comparator then by onTimeFirst counted
+three-digits n e d a b k l ha hb hk hl =
+    rw (two-digits n (counted e * n + a) (counted d * n + b) k l hk hl, two-digits n (counted e) (counted d) a b ha hb, two-digits n (counted d) (counted e) b a hb ha) (go e d)
+  where
+    go : (e d : Bool)
+        → (ltb (counted e) (counted d) || (not (ltb (counted d) (counted e)) && ltb a b) || (not (ltb (counted d) (counted e) || (not (ltb (counted e) (counted d)) && ltb b a)) && ltb k l))
+        ≡ comparator (keys e a k) (keys d b l)
+    go true true = refl
+    go true false = refl
+    go false true = refl
+    go false false = refl
+
 module _ (B : Board) where
   open Board B using (clockBytes as c, get)
 
@@ -73,29 +93,19 @@ module _ (B : Board) where
     second-lt true i = minus-lt (bits c) _ _
     second-lt false i = mod-lt _ (pow-pos (bits c))
 
-    -- These digits go as the keys do: by the sort, by the key, then by the second key, offsets in the order of their raised ones.
+    -- These digits go as the keys do, offsets in the order of their raised ones.
     digits-order : (i j : ℕ) → ltb (keyDigits B s i) (keyDigits B s j) ≡ comparator (slotKey B s i) (slotKey B s j)
-    unfolding comparator then by onTimeFirst slotKey counted
+    unfolding comparator then by onTimeFirst slotKey
     digits-order i j = go (isEarly B s i) (isEarly B s j)
       where
-        sorted : (e d : Bool)
-            → (ltb (counted e) (counted d) || (not (ltb (counted d) (counted e)) && ltb (firstDigit B e s i) (firstDigit B d s j))
-            || (not (ltb (counted d) (counted e) || (not (ltb (counted e) (counted d)) && ltb (firstDigit B d s j) (firstDigit B e s i))) && ltb (secondDigit B e s i) (secondDigit B d s j)))
-            ≡ comparator (slotKeyOf B e s i) (slotKeyOf B d s j)
-        sorted true true = refl
-        sorted true false = refl
-        sorted false true = refl
-        sorted false false = rw (raised-order c (get s (Time, i)) (get s (Time, j)) (get s clock))
+        raise : (e d : Bool) → comparator (keys e (firstDigit B e s i) (secondDigit B e s i)) (keys d (firstDigit B d s j) (secondDigit B d s j)) ≡ comparator (slotKeyOf B e s i) (slotKeyOf B d s j)
+        raise true true = refl
+        raise true false = refl
+        raise false true = refl
+        raise false false = rw (raised-order c (get s (Time, i)) (get s (Time, j)) (get s clock))
 
-        go : (e d : Bool)
-            → ltb ((counted e * turn B + firstDigit B e s i) * turn B + secondDigit B e s i) ((counted d * turn B + firstDigit B d s j) * turn B + secondDigit B d s j)
-            ≡ comparator (slotKeyOf B e s i) (slotKeyOf B d s j)
-        go e d =
-            rw (
-              two-digits (turn B) (counted e * turn B + firstDigit B e s i) (counted d * turn B + firstDigit B d s j) (secondDigit B e s i) (secondDigit B d s j) (second-lt e i) (second-lt d j),
-              two-digits (turn B) (counted e) (counted d) (firstDigit B e s i) (firstDigit B d s j) (first-lt e i) (first-lt d j),
-              two-digits (turn B) (counted d) (counted e) (firstDigit B d s j) (firstDigit B e s i) (first-lt d j) (first-lt e i),
-            ) (sorted e d)
+        go : (e d : Bool) → ltb (keyDigitsOf B e s i) (keyDigitsOf B d s j) ≡ comparator (slotKeyOf B e s i) (slotKeyOf B d s j)
+        go e d = three-digits (turn B) e d _ _ _ _ (first-lt e i) (first-lt d j) (second-lt e i) (second-lt d j) ∙ raise e d
 
     -- So the lower rank is that of the slot which goes first: by the comparator, and where it doesn't tell them apart the lower slot.
     pub rank-order : (i j : ℕ) → i < 256 → j < 256 → ltb (slotRank B s i) (slotRank B s j) ≡ then (by (slotKey B s) comparator) ltb i j

@@ -28,9 +28,12 @@ module _ (B : Board) where
   abbrev pub secondDigit : Bool → List ℕ → ℕ → ℕ
   secondDigit e s i = cond e (minus (bits c) (get s (Deadline, i)) (get s clock)) (plus (bits c) (minus (bits c) (get s (Time, i)) (get s clock)) (half c))
 
-  -- What the comparator sees of slot i as the digits of a number: first whether it is early, then the key, then the second key.
+  -- What the comparator sees of slot i, early if e, as the digits of a number: first whether it is early, then the key, then the second key.
+  abbrev pub keyDigitsOf : Bool → List ℕ → ℕ → ℕ
+  keyDigitsOf e s i = (counted e * turn + firstDigit e s i) * turn + secondDigit e s i
+
   abbrev pub keyDigits : List ℕ → ℕ → ℕ
-  keyDigits s i = let e = isEarly B s i in (counted e * turn + firstDigit e s i) * turn + secondDigit e s i
+  keyDigits s i = keyDigitsOf (isEarly B s i) s i
 
   -- The rank of slot i, for each port in its mask: with the slot as the lowest digit.
   abbrev pub slotRank : List ℕ → ℕ → ℕ

@@ -26,7 +26,7 @@ Rests r p (early (i, x)) = (i < 256) × (toServe (r .place i) p ≡ some x) × T
 
 -- ---- what doesn't go before another
 
--- By the one and then by the other, it is no earlier.
+-- Of two pairs of times, by the first and then by the second: what the one doesn't go before is no later.
 no-later : (a b d e : ℤ) → (ltZ a d || (not (ltZ d a) && ltZ b e)) ≡ false → NoLater (d, e) (a, b)
 no-later a b d e n = go (ltZ a d) (ltZ d a) (ltZ b e) refl refl refl n
   where
@@ -36,12 +36,12 @@ no-later a b d e n = go (ltZ a d) (ltZ d a) (ltZ b e) refl refl refl n
     go false false true p q z n = absurd (true≢false n)
     go false false false p q z n = inr (antisym d a (not-lt a d p) (not-lt d a q), record { le = not-lt b e z })
 
--- Nor by the one alone.
+-- By the first alone, too.
 pub first-no-later : (d e a b : ℤ) → NoLater (d, e) (a, b) → T (leZ d a)
 first-no-later d e a b (inl l) = let k = l .lt in omega (arith, orders)
 first-no-later d e a b (inr (q, l)) = subst (λ (z : ℤ). T (leZ d z)) q (omega (arith, orders))
 
--- What a packet on time doesn't go before is on time, of no later deadline, nor of the same and a later time; of two early ones, the other way round.
+-- What a packet on time doesn't go before is on time, and no later by deadline and time; what an early one doesn't go before is on time, or no later by time and deadline.
 abbrev pub Behind : Packet → Packet → Bool → Bool → Type 0
 Behind x y false t = (t ≡ false) × NoLater (y .deadline, y .time) (x .deadline, x .time)
 Behind x y true false = Unit {0}
