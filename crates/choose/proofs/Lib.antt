@@ -1,1 +1,2 @@
 pub mod FiveGrants
+pub mod SlotKeys

@@ -10,6 +10,7 @@ ghost use Rattle.passes.specs.Empty.{EmptyFrom};
 ghost use Rattle.passes.specs.Ports.{EachPort, changed};
 ghost use Rattle.passes.specs.Ranks as Ranks;
 ghost use Rattle.choose.specs.Grants.{grantOf, Granted};
+use clock::Key;
 use layout::ClockReading;
 use layout::Field;
 use layout::Router;
@@ -41,11 +42,10 @@ pub fn rank(state: &[u8], t: ClockReading, s: SlotAddress) -> u32
     ensures { λ r. ⌜ r ≡ Ranks.slotRank board8 (now (state .entry)) (s .0) ⌝ }
 {
     let slot = layout::times(state, s);
-    let laxity = clock::since(slot.deadline, t);
-    if clock::on_time(slot.time, t) {
-        return digits(laxity, clock::raised_offset(slot.time, t), s);
+    match clock::key_of(slot.time, slot.deadline, t) {
+        Key::OnTime(key, second) => digits(key, second, s),
+        Key::Early(key, second) => EARLY + digits(key, second, s),
     }
-    EARLY + digits(clock::since(slot.time, t), laxity, s)
 }
 
 fn lesser(rank: u32, best: u32) -> u32

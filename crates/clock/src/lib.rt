@@ -1,9 +1,10 @@
-// Clock readings: sums and differences that turn over at 256, and tests of a time's offset.
+// Clock readings: sums and differences that turn over at 256, whether a time is in time, and a packet's key from the cases of Fig. 7 of document 001.
 ghost use mathlib.Core.Path.{_≡_};
 ghost use lib.IntN.{pos, negℤ};
 ghost use lib.Signed.{leZ};
 ghost use Rattle.rules.specs.Clock.{plus, minus, offset};
-ghost use Rattle.rules.specs.Areas.{bits, half};
+ghost use Rattle.rules.specs.Areas.{bits};
+ghost use Rattle.clock.specs.Cases.{TheCase, restOf, keyOf};
 use layout::ClockReading;
 use layout::Router;
 
@@ -14,29 +15,11 @@ pub fn later(t: ClockReading, d: u8) -> ClockReading
     ClockReading(std::num::wrapping_add_u8(t.0, d))
 }
 
-// How many ticks a time comes after t.
+// How many ticks a time comes after t, by the difference that turns over; a key has it by cases (`ahead`).
 pub fn since(time: ClockReading, t: ClockReading) -> u8
     ensures { λ r. ⌜ r ≡ minus (bits 1) (time .0) (t .0) ⌝ }
 {
     std::num::wrapping_sub_u8(time.0, t.0)
-}
-
-// The offset, from 0 on: how many ticks a time comes after half a turn before t.
-pub fn raised_offset(time: ClockReading, t: ClockReading) -> u8
-    ensures { λ r. ⌜ r ≡ plus (bits 1) (minus (bits 1) (time .0) (t .0)) (half 1) ⌝ }
-{
-    std::num::wrapping_add_u8(since(time, t), Router::HALF)
-}
-
-// The offset is at most 0.
-pub fn on_time(time: ClockReading, t: ClockReading) -> bool
-    ensures { λ r. ⌜ r ≡ leZ (offset (bits 1) (time .0) (t .0)) (pos 0) ⌝ }
-{
-    let x = since(time, t);
-    if x == 0 {
-        return true;
-    }
-    Router::HALF <= x
 }
 
 // The offset is at least -d.
@@ -48,4 +31,92 @@ pub fn in_time(time: ClockReading, t: ClockReading, d: u8) -> bool
         return true;
     }
     256 - (x as u16) <= d as u16
+}
+
+// Where a time lies as seen from the clock reading t: one case for each half of the clock on either side of t. In Fig. 7, whose bit is 0 for a packet on time and 1 for an early one:
+//
+//     time - t    -255       -129 -128             0 1          127 128          255
+//                 [ AheadAcross ] [    Behind     ] [   Ahead   ] [  BehindAcross  ]
+//     offset      1           127 -128             0 1          127 -128          -1
+//     bit, key    1, time - t     0, deadline - t   1, time - t   0, deadline - t
+//
+// Behind t is also t itself. A case with Across has the clock's turn from 255 to 0 between the time and t.
+pub enum Case {
+    Behind,
+    BehindAcross,
+    Ahead,
+    AheadAcross,
+}
+
+// Half a turn, in sums that a byte doesn't hold.
+const HALF: u32 = Router::HALF as u32;
+
+// The case that holds.
+pub fn case_of(time: ClockReading, t: ClockReading) -> Case
+    ensures { λ r. ⌜ TheCase (bits 1) r (time .0) (t .0) ⌝ }
+{
+    let x = time.0 as u32;
+    let now = t.0 as u32;
+    if x <= now {
+        if now <= x + HALF {
+            return Case::Behind;
+        }
+        return Case::AheadAcross;
+    }
+    if x < now + HALF {
+        return Case::Ahead;
+    }
+    Case::BehindAcross
+}
+
+// How many ticks n is short of a turn; 0 is short of none.
+fn rest(n: u8) -> u8
+    ensures { λ r. ⌜ r ≡ restOf (bits 1) n ⌝ }
+{
+    if n == 0 {
+        return 0;
+    }
+    255 - n + 1
+}
+
+// How far a time is ahead of t, without sign.
+fn ahead(time: ClockReading, t: ClockReading) -> u8
+    ensures { λ r. ⌜ r ≡ minus (bits 1) (time .0) (t .0) ⌝ }
+{
+    match case_of(time, t) {
+        Case::Behind => rest(t.0 - time.0),
+        Case::BehindAcross => time.0 - t.0,
+        Case::Ahead => time.0 - t.0,
+        Case::AheadAcross => rest(t.0 - time.0),
+    }
+}
+
+// The offset is at most 0.
+pub fn on_time(time: ClockReading, t: ClockReading) -> bool
+    ensures { λ r. ⌜ r ≡ leZ (offset (bits 1) (time .0) (t .0)) (pos 0) ⌝ }
+{
+    let x = ahead(time, t);
+    if x == 0 {
+        return true;
+    }
+    Router::HALF <= x
+}
+
+// The figure's two rows: the variant is the bit, the first number the key. The second one decides among equal keys: on time the time's offset from half a turn behind t on, early deadline - t.
+pub enum Key {
+    OnTime(u8, u8),
+    Early(u8, u8),
+}
+
+// The key at t of a packet with this time and deadline.
+pub fn key_of(time: ClockReading, deadline: ClockReading, t: ClockReading) -> Key
+    ensures { λ r. ⌜ r ≡ keyOf (bits 1) (time .0) (deadline .0) (t .0) ⌝ }
+{
+    let laxity = ahead(deadline, t);
+    match case_of(time, t) {
+        Case::Behind => Key::OnTime(laxity, Router::HALF - (t.0 - time.0)),
+        Case::BehindAcross => Key::OnTime(laxity, time.0 - t.0 - Router::HALF),
+        Case::Ahead => Key::Early(time.0 - t.0, laxity),
+        Case::AheadAcross => Key::Early(rest(t.0 - time.0), laxity),
+    }
 }

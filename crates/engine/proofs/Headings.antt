@@ -1,6 +1,6 @@
--- A port's choice by its queues: the first that waits for the port, read from a queue's bytes; a slot's key, read from its rank; and whom the two first ones grant the port. Assumes nothing.
-use Prim.Native.Nat.{ℕ, _+_, _*_, _/_, _%_, _<_}
-use mathlib.Core.Path.{_≡_, refl, sym, ap, subst}
+-- A port's choice by its queues: the first that waits for the port, read from a queue's bytes; and whom the two first ones grant the port. Assumes nothing.
+use Prim.Native.Nat.{ℕ, _+_, _<_}
+use mathlib.Core.Path.{_≡_, refl, sym, subst}
 use mathlib.Core.Bool.{Bool, true, false, cond}
 use mathlib.Core.List.{List}
 use mathlib.Core.Option.{Option, none, some}
@@ -8,13 +8,10 @@ use native.Mathlib.Decide.{decLt}
 use native.Mathlib.Omega.{arith}
 use lib.Dec.{leb}
 use lib.IntN.{pos}
-use Rattle.rules.specs.Areas.{bits, has, Grant, nobody, bestEffort, onTime, early}
+use Rattle.rules.specs.Areas.{has, Grant, nobody, bestEffort, onTime, early}
 use Rattle.rules.specs.Board.{Horizon, Mask, board8}
-use Rattle.rules.specs.Order.{counted}
-use Rattle.rules.specs.Tick.{isEarly, slotKey}
+use Rattle.rules.specs.Tick.{slotKey}
 use Rattle.rules.proofs.Booleans.{some-inj, none-some}
-use Rattle.passes.specs.Ranks.{firstDigit, secondDigit, slotRank}
-use Rattle.passes.proofs.Ranks.{first-lt, second-lt}
 use Rattle.passes.specs.Sends.{Winner}
 use Rattle.queues.specs.Area.{queue}
 use Rattle.queues.specs.Engine.{first, heading, tableGrant, queueGrant}
@@ -25,18 +22,6 @@ use Rattle.queues.specs.Engine.{first, heading, tableGrant, queueGrant}
 pub some-heads : (s : List ℕ) (p : ℕ) {o : Option ℕ} {i m : ℕ} {t : Bool} → some i ≡ o → m ≡ board8 .get s (Mask, i) → has m p ≡ t → cond t (some i) none ≡ heading board8 s p o
 unfolding heading
 some-heads s p e em et = rw (← e, ← em, et)
-
--- ---- a slot's key
-
--- The key of slot i is the third digit of its rank r.
-pub rank-key : (s : List ℕ) (i : ℕ) → i < 256 → (r : ℕ) → r ≡ slotRank board8 s i → pos (r / 65536 % 256) ≡ slotKey board8 s i .key
-unfolding slotKey bits
-rank-key s i h r q =
-    let e = isEarly board8 s i in
-    ap pos (go (counted e) (firstDigit board8 e s i) (secondDigit board8 e s i) (first-lt board8 s e i) (second-lt board8 s e i) q)
-  where
-    go : (a k q : ℕ) → k < 256 → q < 256 → r ≡ ((a * 256 + k) * 256 + q) * 256 + i → r / 65536 % 256 ≡ k
-    go a k q hk hq e = omega arith
 
 -- ---- whom the first ones grant the port
 

@@ -16,6 +16,7 @@ ghost use Rattle.queues.specs.Engine.{Bench};
 ghost use Rattle.queues.specs.Engine as Engine;
 ghost use Rattle.table1.specs.Firsts.{slotOf};
 use choose::Grant;
+use clock::Key;
 use layout::ClockReading;
 use layout::Field;
 use layout::Router;
@@ -41,7 +42,11 @@ fn key(state: &[u8], s: SlotAddress) -> u8
     ensures { λ r. ⌜ pos r ≡ slotKey board8 (now (state .entry)) (s .0) .key ⌝ }
 {
     let t = ClockReading(layout::get(state, Field::Clock));
-    (choose::rank(state, t, s) / 65536 % 256) as u8
+    let slot = layout::times(state, s);
+    match clock::key_of(slot.time, slot.deadline, t) {
+        Key::OnTime(key, _) => key,
+        Key::Early(key, _) => key,
+    }
 }
 
 // Who has a port: the first on time, else best-effort, else the first early one within the horizon.

@@ -11,20 +11,19 @@ use native.Mathlib.Omega.{arith}
 use lib.Pow.{pow-pos}
 use lib.Dec.{leb, ltb}
 use lib.IntN.{pos}
-use lib.Signed.{leZ}
 use lib.ListN.{replicate, getD-replicate}
 use borrow.Author.Tests.{lt-ltb, le-ltb, lt-leb, le-leb, ltb-true}
-use Rattle.rules.specs.Clock.{plus, minus, offset}
+use Rattle.rules.specs.Clock.{plus}
 use Rattle.rules.specs.Order.{better, least, by, then, Key, onTimeFirst, comparator, counted}
-use Rattle.rules.specs.Areas.{bits, half, has, Grant, nobody, bestEffort, onTime, early}
-use Rattle.rules.specs.Board.{Board, Horizon, Time, Deadline, Mask, clock}
+use Rattle.rules.specs.Areas.{bits, has, Grant, nobody, bestEffort, onTime, early}
+use Rattle.rules.specs.Board.{Board, Horizon, Time, Mask, clock}
 use Rattle.rules.specs.Tick.{isEarly, granted, slotKeyOf, slotKey, candidate, grant}
 use Rattle.rules.proofs.Booleans.{some-inj, none-some}
 use Rattle.rules.proofs.ClockLaws.{minus-lt}
 use Rattle.rules.proofs.IndexLaws.{least-in}
 use Rattle.rules.proofs.Integers.{ltb-iff}
 use Rattle.rules.proofs.Masks.{has-zero}
-use Rattle.rules.proofs.Offsets.{above, raised-order}
+use Rattle.rules.proofs.Offsets.{raised-order}
 use Rattle.passes.specs.Ports.{EachPort, changed}
 use Rattle.passes.specs.Ranks.{lesser, turn, firstDigit, secondDigit, keyDigitsOf, keyDigits, slotRank, earlyRanks, noRank, rankOf, best, bound}
 use Rattle.passes.proofs.MaskPorts.{has-low}
@@ -85,10 +84,10 @@ module _ (B : Board) where
 
   module _ (s : List ℕ) where
     -- Both keys are below a turn.
-    pub first-lt : (e : Bool) (i : ℕ) → firstDigit B e s i < turn B
+    first-lt : (e : Bool) (i : ℕ) → firstDigit B e s i < turn B
     first-lt e i = minus-lt (bits c) _ _
 
-    pub second-lt : (e : Bool) (i : ℕ) → secondDigit B e s i < turn B
+    second-lt : (e : Bool) (i : ℕ) → secondDigit B e s i < turn B
     unfolding plus
     second-lt true i = minus-lt (bits c) _ _
     second-lt false i = mod-lt _ (pow-pos (bits c))
@@ -116,16 +115,6 @@ module _ (B : Board) where
     rank-higher : (i j : ℕ) → i < 256 → j < i → ltb (slotRank B s i) (slotRank B s j) ≡ comparator (slotKey B s i) (slotKey B s j)
     unfolding then by
     rank-higher i j hi h = rank-order i j hi (omega arith) ∙ rw (le-ltb i j (omega arith)) (only-first (comparator (slotKey B s i) (slotKey B s j)) (comparator (slotKey B s j) (slotKey B s i)))
-
-  -- A slot's rank, by its time u, its deadline d and whether the offset of the time is at most 0, as the code finds it.
-  module _ (s : List ℕ) (i t u d : ℕ) (et : t ≡ get s clock) (eu : u ≡ get s (Time, i)) (ed : d ≡ get s (Deadline, i)) (k q : ℕ) where
-    pub rank-on-time : leZ (offset (bits c) u t) (pos 0) ≡ true → k ≡ minus (bits c) d t → q ≡ plus (bits c) (minus (bits c) u t) (half c) → (k * turn B + q) * 256 + i ≡ slotRank B s i
-    unfolding counted
-    rank-on-time o ek eq = rw (above (pos 0) (offset (bits c) (get s (Time, i)) (get s clock)), ← et, ← eu, o, ← ed, ← ek, ← eq) (omega arith)
-
-    pub rank-early : leZ (offset (bits c) u t) (pos 0) ≡ false → k ≡ minus (bits c) u t → q ≡ minus (bits c) d t → earlyRanks B + ((k * turn B + q) * 256 + i) ≡ slotRank B s i
-    unfolding counted
-    rank-early o ek eq = rw (above (pos 0) (offset (bits c) (get s (Time, i)) (get s clock)), ← et, ← eu, o, ← ed, ← ek, ← eq) (omega arith)
 
   -- ---- what the tests of a rank tell of its slot
 

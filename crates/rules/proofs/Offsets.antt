@@ -42,7 +42,7 @@ module _ (k x : ℕ) (h : x < 2 ^ suc k) where
           let e : suc (2 ^ suc k - suc x) ≡ 2 ^ suc k - x = omega arith in
           rw (le-ltb x (2 ^ k) (omega arith), lt-ltb x (2 ^ suc k) h) (below d (2 ^ suc k - suc x) ∙ ap (λ (y : ℕ). leb y d) e)
 
-  at-most-0 : leZ (signed (suc k) x) (pos 0) ≡ (eqb x 0 || leb (2 ^ k) x)
+  pub at-most-0 : leZ (signed (suc k) x) (pos 0) ≡ (eqb x 0 || leb (2 ^ k) x)
   unfolding signed
   at-most-0 = go (decLt x (2 ^ k))
     where
