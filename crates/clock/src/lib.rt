@@ -33,14 +33,14 @@ pub fn in_time(time: ClockReading, t: ClockReading, d: u8) -> bool
     256 - (x as u16) <= d as u16
 }
 
-// Where a time lies as seen from the clock reading t: one case for each half of the clock on either side of t. In Fig. 7, whose bit is 0 for a packet on time and 1 for an early one:
+// Where a time lies, seen from the clock reading t: one case for each half of the clock on either side of t. Fig. 7 of document 001, whose keys have a bit and a number:
 //
-//     time - t    -255       -129 -128             0 1          127 128          255
-//                 [ AheadAcross ] [    Behind     ] [   Ahead   ] [  BehindAcross  ]
-//     offset      1           127 -128             0 1          127 -128          -1
-//     bit, key    1, time - t     0, deadline - t   1, time - t   0, deadline - t
+//     time - t    -255 ..... -129   -128 .......... 0   1 ...... 127   128 ........ 255
+//                 [ AheadAcross ]   [     Behind    ]   [  Ahead   ]   [ BehindAcross ]
+//     offset      1 ......... 127   -128 .......... 0   1 ...... 127   -128 ........ -1
+//     key         |1| time - t      |0| deadline - t    |1| time - t   |0| deadline - t
 //
-// Behind t is also t itself. A case with Across has the clock's turn from 255 to 0 between the time and t.
+// In a case across, the clock turns from 255 to 0 between the time and t.
 pub enum Case {
     Behind,
     BehindAcross,
@@ -102,7 +102,7 @@ pub fn on_time(time: ClockReading, t: ClockReading) -> bool
     Router::HALF <= x
 }
 
-// The figure's two rows: the variant is the bit, the first number the key. The second one decides among equal keys: on time the time's offset from half a turn behind t on, early deadline - t.
+// A key: the variant is the figure's bit, the first number the figure's. The second decides among equal ones: on time the offset, from half a turn behind t on, early deadline - t.
 pub enum Key {
     OnTime(u8, u8),
     Early(u8, u8),
