@@ -1,4 +1,4 @@
--- A slot's rank and its key, by the key of its time and deadline: both go by whether the slot is early, and have the same digits. Assumes nothing.
+-- A slot's rank and its key, from the key of its time and deadline: both go by whether the slot is early. Assumes nothing.
 use Prim.Native.Nat.{ℕ, _+_, _*_}
 use mathlib.Core.Path.{_≡_, refl}
 use mathlib.Core.Bool.{Bool, true, false}
@@ -14,7 +14,7 @@ use Rattle.clock.specs.Cases.{keyIf, keyOf}
 use Rattle.clock.specs.declared.Key.{Key}
 use Rattle.clock.specs.declared.Key.the-variants.{OnTime, Early}
 
--- The rank of slot i with this key, and its first key.
+-- What the code makes of a key: the rank of slot i that has it, and the key alone.
 abbrev pub rankBy : Key → ℕ → ℕ
 rankBy (OnTime k q) i = (k * 256 + q) * 256 + i
 rankBy (Early k q) i = 16777216 + ((k * 256 + q) * 256 + i)
@@ -23,7 +23,7 @@ abbrev pub firstBy : Key → ℕ
 firstBy (OnTime k q) = k
 firstBy (Early k q) = k
 
--- Slot i, whose time is u and deadline d at the clock reading t.
+-- Of slot i, whose time is u and deadline d at the clock reading t, they are the slot's.
 module _ (s : List ℕ) (i t u d : ℕ) (et : t ≡ board8 .get s clock) (eu : u ≡ board8 .get s (Time, i)) (ed : d ≡ board8 .get s (Deadline, i)) (k : Key) (ek : k ≡ keyOf (bits 1) u d t) where
   pub rank-by-key : rankBy k i ≡ slotRank board8 s i
   unfolding bits half counted

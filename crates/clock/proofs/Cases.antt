@@ -59,10 +59,11 @@ told {x} {t} h e = subst (λ (c : Case). Holds 8 c x t) e (h .holds)
 
 -- ---- how far a time is ahead
 
+-- What any number but 0 is short of a turn.
 rest-of : (b n : ℕ) → 0 < n → restOf b n ≡ 2 ^ b - n
 rest-of b n h = rw (ne-eqb n 0 (λ e. omega arith))
 
--- By the case.
+-- How far x is ahead of t, by the case.
 abbrev pub aheadBy : ℕ → Case → ℕ → ℕ → ℕ
 aheadBy b Behind x t = restOf b (t - x)
 aheadBy b BehindAcross x t = x - t
@@ -74,6 +75,7 @@ module _ (b x t : ℕ) (hx : x < 2 ^ b) (ht : t < 2 ^ b) where
   minus-is : (r q : ℕ) → r < 2 ^ b → r + t ≡ x + q * 2 ^ b → r ≡ minus b x t
   minus-is r q h e = let (p, f, l) = minus-view b x t hx ht in turns (2 ^ b) r (minus b x t) p q (omega arith) (omega arith) (omega arith)
 
+  -- From t on it is the plain difference, and up to t what t - x is short of a turn.
   from : t ≤ x → x - t ≡ minus b x t
   from l = minus-is (x - t) 0 (omega arith) (omega arith)
 
@@ -92,7 +94,7 @@ module _ (b x t : ℕ) (hx : x < 2 ^ b) (ht : t < 2 ^ b) where
 
 -- ---- the key
 
--- By the case, early or on time, and the key, where l is deadline - t.
+-- Whether x is early, by the case, and the key, where l is deadline - t.
 abbrev earlyBy : Case → Bool
 earlyBy Behind = false
 earlyBy BehindAcross = false
@@ -114,9 +116,6 @@ module _ (k x t : ℕ) (hx : x < 2 ^ suc k) (ht : t < 2 ^ suc k) where
       ∙ ap not (at-most-0 k (minus (suc k) x t) (minus-lt (suc k) x t) ∙ ap (λ (n : ℕ). eqb n 0 || leb (2 ^ k) n) (sym (ahead-by-case (suc k) x t hx ht c h)))
       ∙ go c h
     where
-      two : 2 ^ suc k ≡ 2 ^ k + 2 ^ k
-      two = pow-double k
-
       late : (n : ℕ) → 2 ^ k ≤ n → not (eqb n 0 || leb (2 ^ k) n) ≡ false
       late n h = rw (le-leb (2 ^ k) n h, or-true (eqb n 0))
 
@@ -124,14 +123,14 @@ module _ (k x t : ℕ) (hx : x < 2 ^ suc k) (ht : t < 2 ^ suc k) where
       soon n p h = rw (ne-eqb n 0 (λ e. omega arith), lt-leb (2 ^ k) n h)
 
       here : Dec (x < t) → x ≤ t → t ≤ x + 2 ^ k → not (eqb (restOf (suc k) (t - x)) 0 || leb (2 ^ k) (restOf (suc k) (t - x))) ≡ false
-      here (yes l) h m = rw (rest-of (suc k) (t - x) (omega arith)) (late (2 ^ suc k - (t - x)) (omega (arith, two)))
+      here (yes l) h m = rw (rest-of (suc k) (t - x) (omega arith)) (late (2 ^ suc k - (t - x)) (omega (arith, pow-double k)))
       here (no l) h m = rw (eq-eqb (t - x) 0 (omega arith))
 
       go : (c : Case) → Holds (suc k) c x t → not (eqb (aheadBy (suc k) c x t) 0 || leb (2 ^ k) (aheadBy (suc k) c x t)) ≡ earlyBy c
       go Behind (l, m) = here (decLt x t) l m
       go BehindAcross l = late (x - t) (omega arith)
       go Ahead (l, m) = soon (x - t) (omega arith) (omega arith)
-      go AheadAcross l = rw (rest-of (suc k) (t - x) (omega arith)) (soon (2 ^ suc k - (t - x)) (omega arith) (omega (arith, two)))
+      go AheadAcross l = rw (rest-of (suc k) (t - x) (omega arith)) (soon (2 ^ suc k - (t - x)) (omega arith) (omega (arith, pow-double k)))
 
   -- Half a turn more than the difference is the number below a turn that makes it, but for turns.
   raised-is : (r p : ℕ) → r < 2 ^ suc k → r + t + p * 2 ^ suc k ≡ x + 2 ^ k → r ≡ plus (suc k) (minus (suc k) x t) (2 ^ k)
@@ -146,11 +145,8 @@ module _ (k x t : ℕ) (hx : x < 2 ^ suc k) (ht : t < 2 ^ suc k) where
   pub key-by-case : (c : Case) → Holds (suc k) c x t → (d l : ℕ) → l ≡ minus (suc k) d t → keyBy (suc k) c x t l ≡ keyOf (suc k) x d t
   key-by-case c h d l e = rw (early-by-case c h, ← e) (go c h)
     where
-      two : 2 ^ suc k ≡ 2 ^ k + 2 ^ k
-      two = pow-double k
-
       go : (c : Case) → Holds (suc k) c x t → keyBy (suc k) c x t l ≡ cond (earlyBy c) (Early (minus (suc k) x t) l) (OnTime l (plus (suc k) (minus (suc k) x t) (2 ^ k)))
-      go Behind (a, b) = ap (OnTime l) (raised-is (2 ^ k - (t - x)) 0 (omega (arith, two, pow-pos k)) (omega arith))
-      go BehindAcross a = ap (OnTime l) (raised-is (x - t - 2 ^ k) 1 (omega (arith, two)) (omega (arith, two)))
+      go Behind (a, b) = ap (OnTime l) (raised-is (2 ^ k - (t - x)) 0 (omega (arith, pow-double k, pow-pos k)) (omega arith))
+      go BehindAcross a = ap (OnTime l) (raised-is (x - t - 2 ^ k) 1 (omega (arith, pow-double k)) (omega (arith, pow-double k)))
       go Ahead h = ap (λ (n : ℕ). Early n l) (ahead-by-case (suc k) x t hx ht Ahead h)
       go AheadAcross h = ap (λ (n : ℕ). Early n l) (ahead-by-case (suc k) x t hx ht AheadAcross h)
