@@ -91,7 +91,7 @@ fn ahead(time: ClockReading, t: ClockReading) -> u8
     }
 }
 
-// The offset is at most 0.
+// The offset is at most 0: the time isn't 1 to 127 ticks ahead.
 pub fn on_time(time: ClockReading, t: ClockReading) -> bool
     ensures { λ r. ⌜ r ≡ leZ (offset (bits 1) (time .0) (t .0)) (pos 0) ⌝ }
 {
