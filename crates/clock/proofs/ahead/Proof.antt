@@ -32,17 +32,14 @@ returns-4 c =
     let a = c .before .before .before in
     c .rest2 .ensures ∙ ahead-by-case 8 _ _ (search needs) (search needs) AheadAcross (told (a .before .before .case-of .ensures) (a .enum-told4 .given .1))
 
+-- After the call, a line for each case.
 pub ahead-spec : {M : Type 1} → statement M
 ahead-spec =
     tie.close
     (tie.spec
-    (λ c κs. search needs) (λ c. search needs)
-    (λ c. let a = c .before .before in let h = told (a .before .before .case-of .ensures) (a .enum-told .given .1) in h .0)
-    (λ c κs. search needs) (λ c. search needs)
-    (λ c. let a = c .before .before in let h = told (a .before .before .case-of .ensures) (a .enum-told2 .given .1) in omega arith)
-    (λ c. search needs)
-    (λ c. let a = c .before .before in let h = told (a .before .before .case-of .ensures) (a .enum-told3 .given .1) in omega arith)
-    (λ c. search needs)
-    (λ c. let a = c .before .before in let h = told (a .before .before .case-of .ensures) (a .enum-told4 .given .1) in omega arith)
     (λ c κs. search needs)
+    (λ c. search needs) (λ c. let a = c .before .before in let h = told (a .before .before .case-of .ensures) (a .enum-told .given .1) in h .0) (λ c κs. search needs)
+    (λ c. search needs) (λ c. let a = c .before .before in let h = told (a .before .before .case-of .ensures) (a .enum-told2 .given .1) in omega arith)
+    (λ c. search needs) (λ c. let a = c .before .before in let h = told (a .before .before .case-of .ensures) (a .enum-told3 .given .1) in omega arith)
+    (λ c. search needs) (λ c. let a = c .before .before in let h = told (a .before .before .case-of .ensures) (a .enum-told4 .given .1) in omega arith) (λ c κs. search needs)
     returns returns-2 returns-3 returns-4)

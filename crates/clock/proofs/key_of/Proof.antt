@@ -35,19 +35,14 @@ returns-4 c =
     ap (λ (n : ℕ). Early n (a .before .before .before .ahead .result)) (c .rest .ensures)
     ∙ key-by-case 7 _ _ (search needs) (search needs) AheadAcross (told (a .before .before .case-of .ensures) (a .enum-told4 .given .1)) _ _ (a .before .before .before .ahead .ensures)
 
+-- After the calls, a line for each case.
 pub key-of-spec : {M : Type 1} → statement M
 key-of-spec =
     tie.close
     (tie.spec
-    (λ c κs. search needs) (λ c κs. search needs) (λ c. search needs)
-    (λ c. let a = c .before .before in let h = told (a .before .before .case-of .ensures) (a .enum-told .given .1) in h .0)
-    (λ c. let a = c .before .before in let h = told (a .before .before .case-of .ensures) (a .enum-told .given .1) in omega arith)
-    (λ c. search needs)
-    (λ c. let a = c .before .before in let h = told (a .before .before .case-of .ensures) (a .enum-told2 .given .1) in omega arith)
-    (λ c. let a = c .before .before in let h = told (a .before .before .case-of .ensures) (a .enum-told2 .given .1) in omega arith)
-    (λ c. search needs)
-    (λ c. let a = c .before .before in let h = told (a .before .before .case-of .ensures) (a .enum-told3 .given .1) in omega arith)
-    (λ c. search needs)
-    (λ c. let a = c .before .before in let h = told (a .before .before .case-of .ensures) (a .enum-told4 .given .1) in omega arith)
-    (λ c κs. search needs)
+    (λ c κs. search needs) (λ c κs. search needs)
+    (λ c. search needs) (λ c. let a = c .before .before in let h = told (a .before .before .case-of .ensures) (a .enum-told .given .1) in h .0) (λ c. let a = c .before .before in let h = told (a .before .before .case-of .ensures) (a .enum-told .given .1) in omega arith)
+    (λ c. search needs) (λ c. let a = c .before .before in let h = told (a .before .before .case-of .ensures) (a .enum-told2 .given .1) in omega arith) (λ c. let a = c .before .before in let h = told (a .before .before .case-of .ensures) (a .enum-told2 .given .1) in omega arith)
+    (λ c. search needs) (λ c. let a = c .before .before in let h = told (a .before .before .case-of .ensures) (a .enum-told3 .given .1) in omega arith)
+    (λ c. search needs) (λ c. let a = c .before .before in let h = told (a .before .before .case-of .ensures) (a .enum-told4 .given .1) in omega arith) (λ c κs. search needs)
     returns returns-2 returns-3 returns-4)
