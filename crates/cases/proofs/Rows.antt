@@ -14,7 +14,8 @@ use Rattle.rules.specs.Areas.{Store, bits, packet, has}
 use Rattle.rules.specs.Board.{Mask, clock, board8}
 use Rattle.rules.specs.Tick as Bytes
 use Rattle.rules.specs.Whole.{Router, Held, start, packetBytes}
-use Rattle.rules.specs.Calls.{refusal, wholeStep, Proper}
+use Rattle.rules.specs.Calls.{refusal, wholeStep}
+use Rattle.rules.specs.Given.{Proper}
 use Rattle.rules.specs.Demand3.{byteStep}
 use Rattle.rules.proofs.Booleans.{and-left, and-right, cons-first, cons-rest}
 use Rattle.rules.proofs.Masks.{has-zero}
@@ -64,7 +65,7 @@ by-router r =
       candidates = listed (λ i. by-places (cut (bits 1) (arrivedWhole r .clock)) i (packet (o .reply .outgoing) 0) (arrivedWhole r .place i) (o .after .place i)) 256;
     }
 
-module _ (r : Row) (h : r .from < 256) (P : Proper 1 (start (r .from)) (r .earlier ++ (lent (r .tick) ∷ []))) (e : refusal 1 (beforeWhole r) (lent (r .tick)) ≡ 0) where
+module _ (r : Row) (h : r .from < 256) (P : Proper 1 (pos (r .from)) (r .earlier ++ (lent (r .tick) ∷ []))) (e : refusal 1 (beforeWhole r) (lent (r .tick)) ≡ 0) where
   abbrev end : Router
   end = wholeStep 1 (beforeWhole r) (lent (r .tick)) .after
 
@@ -101,13 +102,13 @@ module _ (r : Row) (h : r .from < 256) (P : Proper 1 (start (r .from)) (r .earli
 -- The rows start at clock readings, their calls are proper, and their ticks are accepted.
 unfoldable pub runnable : List Row → Bool
 runnable [] = true
-runnable (r ∷ rs) = ltb (r .from) 256 && (isProper 1 (start (r .from)) (r .earlier ++ (lent (r .tick) ∷ [])) && (eqb (refusal 1 (beforeWhole r) (lent (r .tick))) 0 && runnable rs))
+runnable (r ∷ rs) = ltb (r .from) 256 && (isProper 1 (pos (r .from)) (r .earlier ++ (lent (r .tick) ∷ [])) && (eqb (refusal 1 (beforeWhole r) (lent (r .tick))) 0 && runnable rs))
 
 -- Rows are met where the router that never turns over shows them: by what it does, and by what its times cut to a byte make of it.
 pub all-meet : (rs : List Row) → runnable rs ≡ true → map by-router rs ≡ map expectedOnBytes rs → map onWhole rs ≡ map expectedOnWhole rs → AllMeet rs
 unfolding runnable AllMeet
 all-meet [] e b w = tt
 all-meet (r ∷ rs) e b w =
-    let P = proper 1 (r .earlier ++ (lent (r .tick) ∷ [])) (start (r .from)) (search (and-left, and-right)) in
+    let P = proper 1 (r .earlier ++ (lent (r .tick) ∷ [])) (pos (r .from)) (search (and-left, and-right)) in
     let seen = bytes-seen r (search (ltb-true, and-left)) P (search (eqb-true, and-left, and-right)) in
     (record { bytes = seen ∙ cons-first b; whole = cons-first w; proper = P }, all-meet rs (search and-right) (cons-rest b) (cons-rest w))

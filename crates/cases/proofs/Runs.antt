@@ -4,6 +4,7 @@ use mathlib.Core.Path.{_≡_, refl, _∙_}
 use mathlib.Core.Bool.{true}
 use mathlib.Core.List.{List}
 use native.Mathlib.Omega.{arith}
+use lib.IntN.{pos}
 use Rattle.rules.specs.Areas.{Reply}
 use Rattle.rules.specs.Whole.{start}
 use Rattle.rules.specs.Calls.{Call, afterAll, replies, wholeStep}
@@ -16,10 +17,10 @@ use Rattle.cases.proofs.Reached.{after-calls}
 
 -- ---- what demand 3 says of a proper list
 
-gives : (t : ℕ) → t < 256 → (ks : List Call) (rs : List Reply) (n m : ℕ) → isProper 1 (start t) ks ≡ true → replies (wholeStep 1) (start t) ks ≡ rs → stored (afterAll (wholeStep 1) (start t) ks .place) ≡ m → n + m ≡ 256 → Gives t ks rs n
+gives : (t : ℕ) → t < 256 → (ks : List Call) (rs : List Reply) (n m : ℕ) → isProper 1 (pos t) ks ≡ true → replies (wholeStep 1) (start t) ks ≡ rs → stored (afterAll (wholeStep 1) (start t) ks .place) ≡ m → n + m ≡ 256 → Gives t ks rs n
 gives t h ks rs n m p w s e =
-    let a = after-calls t h ks (proper 1 ks (start t) p) in
-    record { whole = w; bytes = a .replies ∙ w; left = omega (arith, a .shown .free, s, e) }
+    let a = after-calls t h ks (proper 1 ks (pos t) p) in
+    record { whole = w; bytes = a .agree ∙ w; left = omega (arith, a .shown .free .0, s, e) }
 
 -- ---- the runs, by computation
 

@@ -11,9 +11,10 @@ use Rattle.rules.specs.Areas.{Reply, bits, noPacket, packet, has}
 use Rattle.rules.specs.Board.{board8}
 use Rattle.rules.specs.Questions.{fresh}
 use Rattle.rules.specs.Whole.{Packet, start, packetBytes}
-use Rattle.rules.specs.Calls.{Call, control, Proper}
-use Rattle.rules.specs.Account.{NotedTick, Accepted, isSent, times}
-use Rattle.rules.specs.Demand3.{history}
+use Rattle.rules.specs.Calls.{Call, control}
+use Rattle.rules.specs.Given.{Proper}
+use Rattle.rules.specs.Account.{NotedTick, Accepted, isSent, times, PacketAt}
+use Rattle.rules.specs.Demand3.{ourBytes, ourWhole, history}
 use Rattle.cases.specs.Shorthand.{connect, packetWith, five, ticking, lent, ticked}
 use Rattle.cases.specs.Rows.{Fate, sent, withdrawn, left, Candidate, Row, expectedOnBytes, expectedOnWhole, onBytes, onWhole}
 
@@ -214,7 +215,7 @@ table =
 pub record Meets (r : Row) : Type 0 where
   pub bytes : onBytes r ≡ expectedOnBytes r
   pub whole : onWhole r ≡ expectedOnWhole r
-  pub proper : Proper 1 (start (r .from)) (r .earlier ++ (lent (r .tick) ∷ []))
+  pub proper : Proper 1 (pos (r .from)) (r .earlier ++ (lent (r .tick) ∷ []))
 
 unfoldable pub AllMeet : List Row → Type 0
 AllMeet [] = Unit {0}
@@ -225,12 +226,12 @@ AllMeet (r ∷ rs) = Meets r × AllMeet rs
 -- "sent in this tick or withdrawn in it": on port p the tick d does one of the two with x, once, if the mask of x has p, and neither if it hasn't. What is sent goes out with its bytes.
 pub record SentOrWithdrawn (d : NotedTick) (x : Packet) (p : ℕ) : Type 0 where
   pub one : counted (isSent x (d .report .grant p)) + times x (d .report .withdrawn p) ≡ counted (has (x .mask) p)
-  pub bytes : isSent x (d .report .grant p) ≡ true → packet (d .outgoing) p ≡ packetBytes 1 x
+  pub bytes : isSent x (d .report .grant p) ≡ true → PacketAt 1 (d .outgoing) p x
 
 -- In every run from a fresh router: a packet that arrives in its deadline tick, as one of time 240 and d = 0 at t = 240, and is accepted, is sent or withdrawn in that tick.
 unfoldable pub NoThird : Type 0
-NoThird = (t : ℕ) → t < 256 → (ks : List Call) → Proper 1 (start t) ks → let h = history board8 (fresh board8 t) (start t) ks in
-    (x : Packet) → Accepted h x → x .deadline ≡ x .arrived → (d : NotedTick) → List·Memᴰ d h → d .met .clock ≡ x .arrived → (p : ℕ) → p < 5 → SentOrWithdrawn d x p
+NoThird = (t : ℕ) → t < 256 → (ks : List Call) → Proper 1 (pos t) ks → let h = history (ourBytes board8) (ourWhole board8) [] (fresh board8 t) (start t) ks in
+    (x : Packet) (i : ℕ) → Accepted h x i → x .deadline ≡ x .arrived → (d : NotedTick) → List·Memᴰ d h → d .met .clock ≡ x .arrived → (p : ℕ) → p < 5 → SentOrWithdrawn d x p
 
 -- Every case marked P, and the ties.
 unfoldable pub Cases : Type 0

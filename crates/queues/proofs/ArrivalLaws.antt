@@ -26,7 +26,8 @@ use Rattle.rules.proofs.OrderLaws.{fails}
 use Rattle.rules.proofs.WholeLaws.{elem-first, elem-other}
 use Rattle.rules.proofs.IndexLaws.{count-change, counted-true, counted-false}
 use Rattle.rules.proofs.StateLaws.{Reads, none-out, reads-self, reads-put}
-use Rattle.rules.proofs.Soundness.{StackSound, elem-at, at-elem, sound-iff}
+use Rattle.rules.specs.Entries.{StackSound}
+use Rattle.rules.proofs.Soundness.{elem-at, at-elem, sound-iff}
 use Rattle.rules.proofs.Good.{Good}
 use Rattle.rules.proofs.Relation.{Rel}
 use Rattle.rules.proofs.Refine.{rel-sound}

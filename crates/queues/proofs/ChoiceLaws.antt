@@ -1,9 +1,9 @@
 -- A port's choice by its queues is the comparator's: the slot that goes before all others that wait for the port has the least key, ties to the lower slot, and it is the first of the
 -- on-time queue, or of the early one where that is empty. Assumes nothing.
-use Prim.Native.Nat.{ℕ, zero, suc, _<_}
+use Prim.Native.Nat.{ℕ, zero, suc, _<_, _≤_}
 use mathlib.Core.Path.{_≡_, refl, sym, ap, ap₂, _∙_}
 use mathlib.Core.Bool.{Bool, true, false, cond, not, _&&_, Bool·beq, true≢false}
-use mathlib.Core.Logic.{_≢_, ⊎-elim}
+use mathlib.Core.Logic.{_≢_, _⊎_, ⊎-elim}
 use mathlib.Core.List.{List, [], _∷_}
 use mathlib.Core.Option.{Option, none, some}
 use native.Mathlib.Decide.{ℕ-discrete}
@@ -12,12 +12,12 @@ use lib.Dec.{ltb}
 use lib.IntN.{pos}
 use lib.Signed.{leZ}
 use borrow.Author.Tests.{lt-ltb, ltb-true}
-use Rattle.rules.specs.Order.{Order, Key, comparator, better, least, topFirst}
+use Rattle.rules.specs.Order.{Key, comparator, least, topFirst}
 use Rattle.rules.specs.Areas.{has, Grant, nobody, bestEffort, onTime, early}
 use Rattle.rules.specs.Board.{Board, Horizon, Mask}
 use Rattle.rules.specs.Tick.{granted, isEarly, slotKey, candidate, grant}
 use Rattle.rules.proofs.Booleans.{some-inj, none-some, and-left, and-right, beq-eq, eq-beq}
-use Rattle.rules.proofs.OrderLaws.{Strict, strict-comparator, least-beats}
+use Rattle.rules.proofs.OrderLaws.{strict-comparator, least-beats}
 use Rattle.rules.proofs.IndexLaws.{least-in}
 use Rattle.rules.proofs.Soundness.{elem-at}
 use Rattle.queues.specs.Table1.{before, waits, Holds}
@@ -25,35 +25,6 @@ use Rattle.queues.specs.Area.{queue, size, entry, inQueue}
 use Rattle.queues.specs.Engine.{firstOf, first, heading, tableGrant, queueGrant}
 use Rattle.queues.proofs.ListLaws.{first-slot, first-before, none-passes}
 use Rattle.queues.proofs.BeforeLaws.{goes, before-goes, before-early}
-
--- ---- the least of equal keys is the lowest
-
-module _ {A : Type 0} {less : Order A} (S : Strict less) where
-  -- The key at k is the least only if it is less than that of the indices below k, which no key there is less than.
-  better-lower : (key : ℕ → Option A) (k i : ℕ) (x : A) → key i ≡ some x → (v : Option (ℕ × A)) → least less key k ≡ v → (z : Option A) (j : ℕ) (y : A) → i < j
-      → (least less key k ≡ some (j, y) → less y x ≡ true) → better less v k z ≡ some (j, y) → less y x ≡ true
-  unfolding better
-  better-lower key k i x q none p none j y l older e = none-some e
-  better-lower key k i x q none p (some z) j y l older e =
-      let m : k ≡ j = ap (λ (w : ℕ × A). w .0) (some-inj e) in
-      let (j′, y′, p′, f) = least-beats S key k i x (omega arith) q in
-      none-some (sym p ∙ p′)
-  better-lower key k i x q (some w) p none j y l older e = older (p ∙ e)
-  better-lower key k i x q (some w) p (some z) j y l older e = go (less z (w .1)) refl e
-    where
-      go : (t : Bool) → less z (w .1) ≡ t → cond t (some (k, z)) (some w) ≡ some (j, y) → less y x ≡ true
-      go false h e = older (p ∙ e)
-      go true h e =
-          let m : k ≡ j = ap (λ (w : ℕ × A). w .0) (some-inj e) in
-          let (j′, y′, p′, f) = least-beats S key k i x (omega arith) q in
-          let same : w .1 ≡ y′ = ap (λ (w : ℕ × A). w .1) (some-inj (sym p ∙ p′)) in
-          ⊎-elim (λ d. ap (λ (w : ℕ × A). less (w .1) x) (sym (some-inj e)) ∙ d) (λ d. absurd (true≢false (sym d ∙ ap (less x) same ∙ f))) (S .cotrans z x (w .1) h)
-
-  -- The least is less than each key before it.
-  least-lower : (key : ℕ → Option A) (k j : ℕ) (y : A) → least less key k ≡ some (j, y) → (i : ℕ) (x : A) → i < j → key i ≡ some x → less y x ≡ true
-  unfolding least
-  least-lower key zero j y e i x l q = none-some e
-  least-lower key (suc k) j y e i x l q = better-lower key k i x q (least less key k) refl (key k) j y l (λ p. least-lower key k j y p i x l q) e
 
 -- A slot that the grant names is the first of lo, on time, or of le, early.
 abbrev pub Firsts : List ℕ → List ℕ → Grant ℕ → Type 0
@@ -104,21 +75,21 @@ module _ (B : Board) where
     -- The slot that goes before every other that waits has the least key: were it another's, that slot would be higher, and so its key less.
     winner-first : (i : ℕ) → i < 256 → has (get s (Mask, i)) p ≡ true → ((j : ℕ) → j < 256 → has (get s (Mask, j)) p ≡ true → j ≢ i → before B s i j ≡ true) → winner ≡ some (i, slotKey B s i)
     winner-first i l h earlier =
-        let (j, y, e, f) = least-beats strict-comparator (candidate B s p) 256 i (slotKey B s i) l (candidate-key i h) in
+        let (j, y, e, f, o) = least-beats strict-comparator (candidate B s p) 256 i (slotKey B s i) l (candidate-key i h) in
         let (m, q) = least-in comparator (candidate B s p) 256 j y e in
         let (g, r) = key-candidate j y q in
-        go j y e f m g r (ℕ-discrete j i)
+        go j y e f o m g r (ℕ-discrete j i)
       where
-        go : (j : ℕ) (y : Key) → winner ≡ some (j, y) → comparator (slotKey B s i) y ≡ false → j < 256 → has (get s (Mask, j)) p ≡ true → slotKey B s j ≡ y → Dec (j ≡ i) → winner ≡ some (i, slotKey B s i)
-        go j y e f m g r (yes d) = e ∙ ap₂ (λ (j : ℕ) (y : Key). some (j, y)) d (sym r ∙ ap (slotKey B s) d)
-        go j y e f m g r (no n) =
+        go : (j : ℕ) (y : Key) → winner ≡ some (j, y) → comparator (slotKey B s i) y ≡ false → (comparator y (slotKey B s i) ≡ true) ⊎ (j ≤ i) → j < 256 → has (get s (Mask, j)) p ≡ true → slotKey B s j ≡ y → Dec (j ≡ i) → winner ≡ some (i, slotKey B s i)
+        go j y e f o m g r (yes d) = e ∙ ap₂ (λ (j : ℕ) (y : Key). some (j, y)) d (sym r ∙ ap (slotKey B s) d)
+        go j y e f o m g r (no n) =
             let z : goes (slotKey B s i) y (ltb i j) ≡ true = ap (λ (k : Key). goes (slotKey B s i) k (ltb i j)) (sym r) ∙ sym (before-goes B s i j) ∙ earlier j m g n in
             absurd (lower (comparator y (slotKey B s i)) (ltb i j) refl refl (rw f at z))
           where
             lower : (a b : Bool) → comparator y (slotKey B s i) ≡ a → ltb i j ≡ b → (not a && b) ≡ true → ⊥
             lower true b u v z = true≢false (sym z)
             lower false false u v z = true≢false (sym z)
-            lower false true u v z = true≢false (sym (least-lower strict-comparator (candidate B s p) 256 j y e i (slotKey B s i) (ltb-true i j v) (candidate-key i h)) ∙ u)
+            lower false true u v z = ⊎-elim (λ d. true≢false (sym d ∙ u)) (λ d. let l = ltb-true i j v in omega arith) o
 
     -- With none on time, every slot that waits is early.
     all-early : Holds B s p false [] → (j : ℕ) → j < 256 → has (get s (Mask, j)) p ≡ true → waits B s p true j ≡ true

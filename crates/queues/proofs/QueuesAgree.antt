@@ -8,11 +8,13 @@ use mathlib.Core.Option.{Option, none, some}
 use native.Mathlib.Omega.{arith}
 use lib.ListN.{length}
 use lib.Dec.{eqb}
+use lib.IntN.{ℤ}
 use borrow.Author.Tests.{eqb-true, eq-eqb, leb-true}
 use Rattle.rules.specs.Areas.{Store, Outcome, Reply, byte, packet, portsBelow, answersArea, Grant, nobody, bestEffort, onTime, early, grantCode, asked}
 use Rattle.rules.specs.Board.{Board, Deadline, Mask, clock, free, board8}
 use Rattle.rules.specs.Calls as Calls
-use Rattle.rules.specs.Calls.{Call, ByteCall, TrueTimes, Proper, fed, feed, wholeStep, afterAll, replies}
+use Rattle.rules.specs.Calls.{Call, wholeStep, afterAll, replies}
+use Rattle.rules.specs.Given.{ByteCall, TrueTimes, Proper}
 use Rattle.rules.specs.Demand3.{byteStep}
 use Rattle.rules.specs.Questions.{sound, controlRefusal, tickRefusal, written}
 use Rattle.rules.specs.Questions as Entry
@@ -24,7 +26,7 @@ use Rattle.rules.proofs.AreaLaws.{packet-perPort}
 use Rattle.rules.proofs.Agreement.{agree, control-number, tick-number, control-passed}
 use Rattle.rules.proofs.BoardLaws.{Laws}
 use Rattle.rules.proofs.Board8Laws.{lawful8}
-use Rattle.rules.proofs.Feed.{feed-proper}
+use Rattle.rules.proofs.Feed.{fed, feed, feed-proper}
 use Rattle.rules.proofs.Good.{Good, Input, after, window-then}
 use Rattle.rules.proofs.RefineArrivals.{arrived-rel}
 use Rattle.rules.proofs.RefineControl.{written-rel}
@@ -209,7 +211,7 @@ module _ (B : Board) (L : Laws B) where
     }
 
     -- Both ask the same. A control write leaves places and clock; a tick is that of the grants.
-    alike : (k : Call) → ByteCall c k → TrueTimes c w k → Alike (benchStep B b k) (byteStep B (b .store) k)
+    alike : (k : Call) → ByteCall c k → TrueTimes c (w .clock) k → Alike (benchStep B b k) (byteStep B (b .store) k)
     unfolding benchStep byteStep Engine.control Entry.controlWrite Engine.tick Entry.tick ticked arrivedBench Whole.written
     alike (Calls.control register v) hb ht =
         rw (questions-same B b H (controlRefusal B (b .store) register v))
@@ -223,12 +225,12 @@ module _ (B : Board) (L : Laws B) where
         rw (questions-same B b H (tickRefusal B (b .store) (k .arriving) (k .bestEffort) (k .arrivals) out ans))
         (decided (eqb (tickRefusal B (b .store) (k .arriving) (k .bestEffort) (k .arrivals) out ans) 0)
         (λ e.
-        let I = input-of c w k out ans hb ht (sym (tick-number B L R G k out ans) ∙ eqb-true _ 0 e) in
+        let I = input-of c (L .few-bytes) w k out ans hb ht (sym (tick-number B L R G k out ans) ∙ eqb-true _ 0 e) in
         record { reply = reply-same R G k I (q₁ k) (received-hold k); store = store-same R G k I (q₁ k) (received-hold k); hold = ended-hold R G k I (q₁ k) (received-hold k) })
         (record { reply = refl; store = refl; hold = H }))
 
     -- What the ports send in an accepted tick.
-    firsts-sent : (k : TickCall) (out ans : List ℕ) → ByteCall c (Calls.tick k out ans) → TrueTimes c w (Calls.tick k out ans)
+    firsts-sent : (k : TickCall) (out ans : List ℕ) → ByteCall c (Calls.tick k out ans) → TrueTimes c (w .clock) (Calls.tick k out ans)
         → let o = benchStep B b (Calls.tick k out ans) in o .reply .number ≡ 0 → FirstsSent B b k (o .reply .outgoing) (o .reply .answers)
     unfolding benchStep Engine.tick ticked arrivedBench
     firsts-sent k out ans hb ht e = rw same (go (eqb n 0) refl (rw same at e))
@@ -247,29 +249,29 @@ module _ (B : Board) (L : Laws B) where
 
         go : (a : Bool) → eqb n 0 ≡ a → cond a t refused .reply .number ≡ 0 → FirstsSent B b k (cond a t refused .reply .outgoing) (cond a t refused .reply .answers)
         go true q z =
-            let I = input-of c w k out ans hb ht (sym (tick-number B L R G k out ans) ∙ eqb-true n 0 q) in
+            let I = input-of c (L .few-bytes) w k out ans hb ht (sym (tick-number B L R G k out ans) ∙ eqb-true n 0 q) in
             record { chosenFrom = received-hold k; sends = sends R G k I (q₁ k) (received-hold k) }
         go false q z = absurd (true≢false (sym (eq-eqb n 0 z) ∙ q))
 
   -- ---- a list of calls
 
   -- The engine sees no true time.
-  fed-bench : (w : Router) (b : Bench) (k : Call) → benchStep B b (fed c w k) ≡ benchStep B b k
+  fed-bench : (T : ℤ) (b : Bench) (k : Call) → benchStep B b (fed c T k) ≡ benchStep B b k
   unfolding benchStep fed
-  fed-bench w b (Calls.control register v) = refl
-  fed-bench w b (Calls.tick k out ans) = refl
+  fed-bench T b (Calls.control register v) = refl
+  fed-bench T b (Calls.tick k out ans) = refl
 
   -- Any call can be given true times.
-  fed-proper : (w : Router) (k : Call) → ByteCall c k → ByteCall c (fed c w k) × TrueTimes c w (fed c w k)
+  fed-proper : (T : ℤ) (k : Call) → ByteCall c k → ByteCall c (fed c T k) × TrueTimes c T (fed c T k)
   unfolding Proper feed
-  fed-proper w k hb = let P = feed-proper c (L .some-bytes) (L .few-bytes) (k ∷ []) w (λ j m. subst (ByteCall c) (sym (List·Memᴰ·eq-of-singleton m)) hb) in (P .0, P .1)
+  fed-proper T k hb = let P = feed-proper c (L .some-bytes) (L .few-bytes) (k ∷ []) T (λ j m. subst (ByteCall c) (sym (List·Memᴰ·eq-of-singleton m)) hb) in (P .0, P .1)
 
   -- A tick at its true times sends what it sends without them.
   tick-firsts : {b : Bench} {w : Router} → Rel B L (b .store) w → Good c w → AllHold B b → (k : TickCall) (out ans : List ℕ) → ByteCall c (Calls.tick k out ans)
       → let o = benchStep B b (Calls.tick k out ans) in o .reply .number ≡ 0 → FirstsSent B b k (o .reply .outgoing) (o .reply .answers)
   unfolding benchStep fed
   tick-firsts {b} {w} R G H k out ans hb e =
-      let (h, t) = fed-proper w (Calls.tick k out ans) hb in
+      let (h, t) = fed-proper (w .clock) (Calls.tick k out ans) hb in
       let F = firsts-sent R G H _ out ans h t e in
       record { chosenFrom = F .chosenFrom; sends = F .sends }
 
@@ -278,10 +280,11 @@ module _ (B : Board) (L : Laws B) where
   unfolding afterAll replies
   after-calls [] R G H hb = record { replies = refl; store = refl; queues = H; firsts = tick-firsts R G H }
   after-calls (k ∷ ks) {b} {w} R G H hb =
-      let (h, t) = fed-proper w k (hb k (List·Memᴰ·head refl)) in
-      let a = agree B L R G (fed c w k) h t in
-      let A : Alike (benchStep B b k) (byteStep B (b .store) k) = rw (fed-bench w b k, fed-bytes B L w (b .store) k) at (alike R G H (fed c w k) h t) in
-      let R′ = subst (λ (r : Store). Rel B L r (wholeStep c w (fed c w k) .after)) (ap (λ (o : Outcome Store). o .after) (fed-bytes B L w (b .store) k) ∙ sym (A .store)) (a .rel) in
+      let f = fed c (w .clock) k in
+      let (h, t) = fed-proper (w .clock) k (hb k (List·Memᴰ·head refl)) in
+      let a = agree B L R G f h t in
+      let A : Alike (benchStep B b k) (byteStep B (b .store) k) = rw (fed-bench (w .clock) b k, fed-bytes B L (w .clock) (b .store) k) at (alike R G H f h t) in
+      let R′ = subst (λ (r : Store). Rel B L r (wholeStep c w f .after)) (ap (λ (o : Outcome Store). o .after) (fed-bytes B L (w .clock) (b .store) k) ∙ sym (A .store)) (a .rel) in
       let E = after-calls ks R′ (a .good) (A .hold) (λ j m. hb j (List·Memᴰ·tail m)) in
       record {
         replies = ap₂ (λ (x : Reply) (l : List Reply). x ∷ l) (A .reply) (E .replies ∙ ap (λ (r : Store). replies (byteStep B) r ks) (A .store));

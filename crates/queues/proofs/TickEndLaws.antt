@@ -5,6 +5,7 @@ use mathlib.Core.Path.{_≡_, refl, sym, ap, ap₂, subst, _∙_}
 use mathlib.Core.Bool.{Bool, true, false, not, _&&_, _||_, true≢false, Bool·beq, and-true, and-false, Bool·not-not}
 use mathlib.Core.List.{List}
 use mathlib.Core.Option.{Option, none, some}
+use mathlib.Core.Logic.{inr}
 use native.Mathlib.Omega.{arith}
 use lib.Dec.{T, ltb, eqb}
 use lib.IntN.{ℤ, pos, sucℤ}
@@ -13,7 +14,6 @@ use native.Mathlib.Decide.{decLt}
 use borrow.Author.Tests.{eqb-true, lt-ltb, le-ltb}
 use Rattle.rules.specs.Areas.{Store, half, has}
 use Rattle.rules.specs.Board.{Board, Mask, clock}
-use Rattle.rules.specs.Demand3.{HeldShown}
 use Rattle.rules.specs.Order.{Key, by, comparator}
 use Rattle.rules.specs.Tick.{isEarly, slotKey, isDue as isDueNow, arrived, served, ticked}
 use Rattle.rules.specs.Whole.{Packet, Held, Router, TickCall, isDue, remaining, packetKeyOf, packetKey}
@@ -29,7 +29,7 @@ use Rattle.rules.proofs.OrderLaws.{fails, strict-comparator}
 use Rattle.rules.proofs.Refine.{tick-rel}
 use Rattle.rules.proofs.RefineArrivals.{arrived-rel}
 use Rattle.rules.proofs.RefineServed.{served-rel}
-use Rattle.rules.proofs.Relation.{SlotShows, Rel, with-state}
+use Rattle.rules.proofs.Relation.{HeldShown, SlotShows, Rel, with-state}
 use Rattle.rules.proofs.TimeLaws.{window-due}
 use Rattle.rules.proofs.WholeLaws.{AllHeld, emptied-place}
 use Rattle.queues.specs.Table1.{before, waits, Lists, Holds}
@@ -57,8 +57,8 @@ goes-not-back k l t e = go (comparator k l) (comparator l k) refl refl e
 
 -- Of packets of one sort, what another doesn't go before has no later key.
 key-no-later : (t : ℤ) (x y : Packet) (e : Bool) → ltZ t (x .time) ≡ e → ltZ t (y .time) ≡ e → by (packetKey t) comparator y x ≡ false → T (leZ (packetKeyOf e x .key) (packetKeyOf e y .key))
-key-no-later t x y true p q n = first-no-later _ _ _ _ (not-before t y x true true q p n)
-key-no-later t x y false p q n = first-no-later _ _ _ _ (not-before t y x false false q p n .1)
+key-no-later t x y true p q n = first-no-later _ _ _ _ 0 0 (not-before t 0 y 0 x true true q p n (inr (omega arith)))
+key-no-later t x y false p q n = first-no-later _ _ _ _ 0 0 (not-before t 0 y 0 x false false q p n (inr (omega arith)) .1)
 
 module _ (B : Board) (L : Laws B) where
   open Board B using (clockBytes as c, get)

@@ -9,7 +9,8 @@ use Rattle.rules.specs.Board.{Board, board8}
 use Rattle.rules.specs.Questions.{full, sound}
 use Rattle.rules.specs.Whole.{TickCall}
 use Rattle.rules.specs.Calls as Calls
-use Rattle.rules.specs.Calls.{Call, ByteCall, afterAll, replies}
+use Rattle.rules.specs.Calls.{Call, afterAll, replies}
+use Rattle.rules.specs.Given.{ByteCall}
 use Rattle.rules.specs.Demand3.{byteStep}
 use Rattle.queues.specs.Table1.{Holds}
 use Rattle.queues.specs.Area.{queuesLength, queue, inQueue}

@@ -28,9 +28,6 @@ taken m x (accepted y) = m y && samePacket x y
 abbrev pub for-port : ℕ → Packet → Bool
 for-port p y = has (y .mask) p
 
-abbrev pub any : Packet → Bool
-any y = true
-
 -- ---- what a tick does to the places with a test
 
 -- An arrival adds the packet that it brings: it takes an empty place.
@@ -130,45 +127,6 @@ module _ (p : ℕ) (x : Packet) where
         let k : times x (due T (toServe (f n) p)) ≡ times x (due T (toServe (w .place n) p)) = ap (λ v. times x (due T (toServe v p))) e in
         omega arith
 
--- ---- the places that hold x
-
--- The place holds x.
-unfoldable pub holds : Packet → Option Held → Bool
-holds x none = false
-holds x (some h) = samePacket x (h .packet)
-
-module _ (x : Packet) where
-  -- A packet less a port is the same packet.
-  holds-lose : (p : ℕ) (v : Option Held) → holds x (lose p v) ≡ holds x v
-  unfolding lose holds
-  holds-lose p none = refl
-  holds-lose p (some h) = refl
-
-  -- So losing a port changes no count of places.
-  lose-in : (q i : ℕ) (w : Router) → i < 256 → tally (holds x) (lost-in i q w .place) ≡ tally (holds x) (w .place)
-  lose-in q i w l = let h = tally-put (holds x) (w .place) i (lose q (w .place i)) l in let e = ap counted (holds-lose q (w .place i)) in omega arith
-
-  -- A place that settles keeps its packet or holds none.
-  remaining-in : (T : ℤ) (v : Option Held) → counted (holds x (remaining T v)) ≤ counted (holds x v)
-  unfolding remaining holds counted
-  remaining-in T none = omega arith
-  remaining-in T (some h) = go (isDue T (h .packet) || eqb (h .left) 0)
-    where
-      go : (b : Bool) → counted (holds x (cond b none (some h))) ≤ counted (samePacket x (h .packet))
-      go true = omega arith
-      go false = omega arith
-
-  -- By induction over the places.
-  emptied-in : (T : ℤ) (n : ℕ) (w : Router) → n ≤ 256 → tally (holds x) (emptied T n w .place) ≤ tally (holds x) (w .place)
-  unfolding emptied
-  emptied-in T zero w l = omega arith
-  emptied-in T (suc n) w l =
-      let f = emptied T n w .place in
-      let a = emptied-in T n w (omega arith) in
-      let b = tally-put (holds x) f n (remaining T (f n)) (omega arith) in
-      let d = remaining-in T (f n) in
-      omega arith
-
 -- ---- the whole tick
 
 module _ (c : ℕ) (w : Router) (call : TickCall) (G : Good c w) (I : Input c (w .clock) call) where
@@ -188,22 +146,6 @@ module _ (c : ℕ) (w : Router) (call : TickCall) (G : Good c w) (I : Input c (w
   arrivals-tally t m x e₀ e₁ (suc n) =
       let a = arrivals-tally t m x e₀ e₁ n in
       let b = admitted-tally t m x e₀ e₁ (meets c call (now n) n) (now n) (arrivals-kept c w call G I n) (λ y e. arrival-room c (now n) (packet (call .arrivals) n) (call .times n) (arrival-passed c (now n) (call .arriving) n (packet (call .arrivals) n) (call .times n) y e .refusal)) in
-      omega arith
-
-  arrivals-in : (x : Packet) → tally (holds x) (now 5 .place) ≡ tally (holds x) (w .place) + brought any x 5
-  unfolding holds
-  arrivals-in x = arrivals-tally (holds x) any x refl (λ y. refl) 5
-
-  -- Serving only takes ports away.
-  served-in : (x : Packet) (n : ℕ) → tally (holds x) (then n .place) ≡ tally (holds x) (now 5 .place)
-  served-in x n = serving-by c w call (λ r. tally (holds x) (r .place) ≡ tally (holds x) (now 5 .place)) refl n (λ q m r e i l. lose-in x q i r l ∙ e)
-
-  -- A tick adds no place to those that hold x, but by its arrivals.
-  pub tick-in : (x : Packet) → tally (holds x) (emptied (then 5 .clock) 256 (then 5) .place) ≤ tally (holds x) (w .place) + brought any x 5
-  tick-in x =
-      let a = arrivals-in x in
-      let s = served-in x 5 in
-      let e = emptied-in x (then 5 .clock) 256 (then 5) (omega arith) in
       omega arith
 
   module _ (p : ℕ) (hp : p < 5) (x : Packet) where

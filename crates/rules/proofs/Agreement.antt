@@ -1,20 +1,22 @@
 -- Both routers agree over any list of calls, for every lawful board: call by call, the relation of store and router is kept and the replies are equal. Assumes nothing.
-use Prim.Native.Nat.{ℕ, zero, suc, _-_, _^_, _<_, _≤_}
+use Prim.Native.Nat.{ℕ, zero, suc, _+_, _-_, _^_, _<_}
 use mathlib.Core.Path.{_≡_, refl, sym, ap, ap₂, subst, _∙_}
 use mathlib.Core.Bool.{Bool, true, false, cond, _&&_}
-use mathlib.Core.List.{List, [], _∷_, List·Memᴰ, List·Memᴰ·head, List·Memᴰ·tail}
+use mathlib.Core.List.{List, [], _∷_, map}
 use mathlib.Core.Option.{Option, none, some}
-use native.Mathlib.Decide.{ℕ-discrete}
 use native.Mathlib.Omega.{arith}
-use lib.ListN.{take, length-replicate}
+use lib.ListN.{length, take, getD, length-replicate}
 use lib.Dec.{leb, eqb}
-use borrow.Author.Tests.{eq-eqb, ne-eqb, eqb-true, leb-true}
+use lib.IntN.{ℤ, pos}
+use borrow.Author.Tests.{eq-eqb, eqb-true, leb-true}
 use Rattle.rules.specs.Account.{NotedTick, Kept, stored}
-use Rattle.rules.specs.Areas.{Store, Reply, Outcome, numberReply, areasFull, bits, fits, elem, distinct, asked, controlQuestions, tickQuestions}
+use Rattle.rules.specs.Areas.{Store, Reply, Outcome, numberReply, bits, fits, elem, distinct, asked, controlQuestions, tickQuestions}
 use Rattle.rules.specs.Board.{Board, Horizon, Latch, Idle, Mask, Outgoing, Delay, Routes, clock, free}
-use Rattle.rules.specs.Calls.{Call, control, tick, afterAll, replies, refusal, refuse, accept, wholeStep, ByteCall, TrueTimes, Proper}
-use Rattle.rules.specs.Questions.{written, sound, controlRefusal, tickRefusal, fresh, stack}
-use Rattle.rules.specs.Demand3.{noted, byteStep, history, PlaceShown, Shown, AfterCalls, Holds}
+use Rattle.rules.specs.Calls.{Call, control, tick, afterAll, replies, refusal, refuse, accept, wholeStep}
+use Rattle.rules.specs.Given.{numberDue, AsWritten, isTick, acceptedTicks, ByteCall, TrueTimes, clockAfter, Proper}
+use Rattle.rules.specs.Entries.{Sized, Sound}
+use Rattle.rules.specs.Questions.{full, written, controlRefusal, tickRefusal, fresh, makeFresh, stack}
+use Rattle.rules.specs.Demand3.{noted, byteStep, history, ourBytes, ourWhole, PlaceShown, Shown, AfterCalls, Holds}
 use Rattle.rules.specs.Order.{all, count, counted, topFirst}
 use Rattle.rules.specs.Questions as Entry
 use Rattle.rules.specs.Tick as Tick
@@ -22,15 +24,17 @@ use Rattle.rules.specs.Whole.{Held, Router, TickCall, start, written as 
 use Rattle.rules.proofs.BoardLaws.{Laws, freshField}
 use Rattle.rules.proofs.Booleans.{asked-passed, none-some}
 use Rattle.rules.proofs.IndexLaws.{all-at}
-use Rattle.rules.proofs.Good.{Busy, Good}
-use Rattle.rules.proofs.Runs.{written-good, next-good, input-of, Ticking, Run, rest, quiet, ticks}
+use Rattle.rules.proofs.Good.{Busy, Good, tick-good}
+use Rattle.rules.proofs.Runs.{written-good, input-of, Ticking, Run, rest, quiet, ticks}
 use Rattle.rules.proofs.RunPrompt.{accounts}
+use Rattle.rules.proofs.ByteLaws.{packet-at, topFirst-at}
+use Rattle.rules.proofs.GivenLaws.{number-due, step-number, step-clock, numbers-due, step-kept, start-written, settings-written}
 use Rattle.rules.proofs.TimeLaws.{cut-pos, half-pos}
 use Rattle.rules.proofs.StateLaws.{topFirst-same}
-use Rattle.rules.proofs.Soundness.{at-elem}
+use Rattle.rules.proofs.Soundness.{at-elem, sound-iff}
 use Rattle.rules.proofs.Faults.{sound-asked}
 use Rattle.rules.proofs.Relation.{shown, on-settings, SlotShows, Rel, rel-free, with-state}
-use Rattle.rules.proofs.Refine.{rel-sound, rel-full, tick-rel, reply-same, sends-same}
+use Rattle.rules.proofs.Refine.{rel-sound, rel-full, tick-rel, reply-same, sends-same, answers-same}
 use Rattle.rules.proofs.RefineControl.{written-rel}
 
 -- ---- the router at its start is good
@@ -79,7 +83,7 @@ module _ (B : Board) (L : Laws B) where
     pub rel : Rel B L (o .after) (q .after)
     pub good : Good c (q .after)
     pub reply : o .reply ≡ q .reply
-    pub runs : {h : List NotedTick} {z : Router} → Run c (q .after) h z → Run c w (noted c w k (o .reply .outgoing) h) z
+    pub runs : {past : List Call} → AsWritten c past w → {h : List NotedTick} {z : Router} → Run c (q .after) h z → Run c w (noted (ourWhole B .report) past w k (q .reply .number) (o .reply) h) z
 
   module _ {r : Store} {w : Router} (R : Rel B L r w) (G : Good c w) where
     -- Lengths and soundness are passed, so the other questions decide.
@@ -102,56 +106,77 @@ module _ (B : Board) (L : Laws B) where
     decided false f g = g refl
 
     -- An accepted call by the lemma of its kind, a refused one changes nothing in either router.
-    pub agree : (k : Call) → ByteCall c k → TrueTimes c w k → Agree w k (byteStep B r k) (wholeStep c w k)
-    unfolding byteStep Entry.controlWrite Entry.tick wholeStep accept refuse noted wholeWritten
-    agree (control register v) hb ht = rw (control-number register v) (decided (eqb (refusal c w (control register v)) 0) accepted (λ e. record { rel = R; good = G; reply = refl; runs = λ S. S }))
+    pub agree : (k : Call) → ByteCall c k → TrueTimes c (w .clock) k → Agree w k (byteStep B r k) (wholeStep c w k)
+    unfolding byteStep Entry.controlWrite Entry.tick wholeStep accept refuse noted wholeWritten ticked
+    agree (control register v) hb ht = rw (control-number register v) (decided (eqb (refusal c w (control register v)) 0) accepted (λ e. record { rel = R; good = G; reply = refl; runs = λ W S. S }))
       where
         accepted : eqb (refusal c w (control register v)) 0 ≡ true → Agree w (control register v) (record { reply = numberReply 0; after = with-state B L r (written B register v (r .state)) }) (accept c w (control register v))
         accepted e =
             let (p, q) = control-passed register v (eqb-true (refusal c w (control register v)) 0 e) in
             let l = leb-true register 5 p in
-            record { rel = written-rel B L R (G .kept) register v l q; good = written-good c w G register v l q; reply = refl; runs = λ S. quiet refl refl S }
-    agree (tick k out ans) hb ht = rw (tick-number k out ans) (decided (eqb (refusal c w (tick k out ans)) 0) accepted (λ e. record { rel = R; good = G; reply = refl; runs = λ S. rw e S }))
+            record { rel = written-rel B L R (G .kept) register v l q; good = written-good c w G register v l q; reply = refl; runs = λ W S. quiet refl refl refl S }
+    agree (tick k out ans) hb ht = rw (tick-number k out ans) (decided (eqb (refusal c w (tick k out ans)) 0) accepted (λ e. record { rel = R; good = G; reply = refl; runs = λ W S. rw e S }))
       where
         t : Outcome Store
         t = Tick.ticked B r (k .arriving) (k .bestEffort) (k .arrivals)
 
-        d : NotedTick
-        d = record { met = w; call = k; report = ticked c w k .report; outgoing = t .reply .outgoing }
+        d : List Call → NotedTick
+        d past = record { past = past; met = w; call = k; report = ticked c w k .report; outgoing = t .reply .outgoing; answers = t .reply .answers }
 
         accepted : eqb (refusal c w (tick k out ans)) 0 ≡ true → Agree w (tick k out ans) t (accept c w (tick k out ans))
         accepted e =
-            let I = input-of c w k out ans hb ht (eqb-true (refusal c w (tick k out ans)) 0 e) in
-            let u : Ticking c d = record { good = G; input = I; report = refl; sends = sends-same B L R G k I } in
-            record { rel = tick-rel B L R G k I; good = next-good c u; reply = reply-same B L R G k I; runs = λ S. rw e (ticks d u S) }
+            let I = input-of c (L .few-bytes) w k out ans hb ht (eqb-true (refusal c w (tick k out ans)) 0 e) in
+            let u : (past : List Call) → AsWritten c past w → Ticking c (d past) = λ past W. record { good = G; settings = W; input = I; report = refl; sends = sends-same B L R G k I; answers = answers-same B L R G k I } in
+            record { rel = tick-rel B L R G k I; good = tick-good c w k G I; reply = reply-same B L R G k I; runs = λ {past} W S. ticks (d past) (u past W) S }
 
   -- ---- a list of calls
 
-  -- The two runs agree: relation, replies, and what was noted makes a run.
+  -- The two runs agree: relation, replies, and what was noted makes a run, where the settings are what was written.
   pub record Agreed (r : Store) (w : Router) (ks : List Call) : Type 0 where
     pub rel : Rel B L (afterAll (byteStep B) r ks) (afterAll (wholeStep c) w ks)
     pub good : Good c (afterAll (wholeStep c) w ks)
     pub replies : replies (byteStep B) r ks ≡ replies (wholeStep c) w ks
-    pub run : Run c w (history B r w ks) (afterAll (wholeStep c) w ks)
+    pub run : {past : List Call} → AsWritten c past w → Run c w (history (ourBytes B) (ourWhole B) past r w ks) (afterAll (wholeStep c) w ks)
 
   -- Call by call.
-  pub agreed : (ks : List Call) {r : Store} {w : Router} → Rel B L r w → Good c w → Proper c w ks → Agreed r w ks
+  pub agreed : (ks : List Call) {r : Store} {w : Router} → Rel B L r w → Good c w → Proper c (w .clock) ks → Agreed r w ks
   unfolding afterAll replies history Proper
-  agreed [] R G P = record { rel = R; good = G; replies = refl; run = rest G }
-  agreed (k ∷ ks) R G P =
+  agreed [] R G P = record { rel = R; good = G; replies = refl; run = λ W. rest G }
+  agreed (k ∷ ks) {r} {w} R G P =
       let a = agree R G k (P .0) (P .1) in
-      let b = agreed ks (a .rel) (a .good) (P .2) in
-      record { rel = b .rel; good = b .good; replies = ap₂ (λ (x : Reply) (l : List Reply). x ∷ l) (a .reply) (b .replies); run = a .runs (b .run) }
+      let b = agreed ks (a .rel) (a .good) (subst (λ (T : ℤ). Proper c T ks) (sym (step-clock c w k)) (P .2)) in
+      record { rel = b .rel; good = b .good; replies = ap₂ (λ (x : Reply) (l : List Reply). x ∷ l) (a .reply) (b .replies); run = λ W. a .runs W (b .run (step-kept c W k)) }
+
+  -- The calls up to a noted tick.
+  abbrev seen : NotedTick → List Call × TickCall
+  seen d = (d .past, d .call)
+
+  -- Each accepted tick is noted, and no other call: by induction over the calls.
+  noted-ticks : (ks past : List Call) (r : Store) (w : Router) → map seen (history (ourBytes B) (ourWhole B) past r w ks) ≡ acceptedTicks c past ks
+  unfolding history noted acceptedTicks isTick
+  noted-ticks [] past r w = refl
+  noted-ticks (control register v ∷ ks) past r w = noted-ticks ks (control register v ∷ past) (byteStep B r (control register v) .after) (wholeStep c w (control register v) .after)
+  noted-ticks (tick k out ans ∷ ks) past r w =
+      let j = tick k out ans in
+      let h = history (ourBytes B) (ourWhole B) (j ∷ past) (byteStep B r j .after) (wholeStep c w j .after) ks in
+      rw (step-number c w j ∙ number-due c w j, ← noted-ticks ks (j ∷ past) (byteStep B r j .after) (wholeStep c w j .after)) (go (eqb (numberDue c j) 0) h)
+    where
+      go : (b : Bool) (h : List NotedTick) → map seen (cond b (record { past = past; met = w; call = k; report = ticked c w k .report; outgoing = byteStep B r (tick k out ans) .reply .outgoing; answers = byteStep B r (tick k out ans) .reply .answers } ∷ h) h)
+          ≡ cond b ((past, k) ∷ map seen h) (map seen h)
+      go true h = refl
+      go false h = refl
 
   -- A slot shows its place, which has a port left.
-  place-shown : (r : Store) (i : ℕ) (v : Option Held) → ((x : Held) → v ≡ some x → Busy x) → SlotShows B L r i v → PlaceShown B r i v
+  place-shown : (r : Store) (i : ℕ) (v : Option Held) → ((x : Held) → v ≡ some x → Busy x × (length (x .packet .payload) ≡ 20 - (1 + c))) → SlotShows B L r i v → PlaceShown B r i v
   place-shown r i none b h = h
-  place-shown r i (some x) b h = (h, b x refl)
+  place-shown r i (some x) b h = let (busy, size) = b x refl in record { time = h .time; deadline = h .deadline; left = (h .left, busy); bytes = packet-at c (r .memory) i (x .packet) (L .some-bytes) (L .few-bytes) size (h .bytes) }
 
   -- The relation is what is claimed of state and memory.
-  rel-shown : {r : Store} {w : Router} → Rel B L r w → Good c w → Shown B r w
+  pub rel-shown : {r : Store} {w : Router} → Rel B L r w → Good c w → Shown B r w
+  unfolding stack
   rel-shown {r} {w} R G =
       let S = R .settings in
+      let n = rel-free B L R in
       record {
         clock = S .reads clock refl (omega arith);
         horizon = λ p l. S .reads (Horizon, p) refl l;
@@ -159,64 +184,45 @@ module _ (B : Board) (L : Laws B) where
         identifier = λ i l. S .reads (Outgoing, i) refl l;
         delay = λ i l. S .reads (Delay, i) refl l;
         routes = λ i l. S .reads (Routes, i) refl l;
-        place = λ i l. place-shown r i (w .place i) (G .busy i l) (R .place i l);
-        free = let e = rel-free B L R in let k = G .kept .all in omega arith;
-        stack = R .stack;
+        place = λ i l. place-shown r i (w .place i) (λ x e. (G .busy i l x e, G .window i l x e .window .size)) (R .place i l);
+        free = (let k = G .kept .all in omega arith, n);
+        stack = λ i l.
+            ap (λ (n : ℕ). get (r .state) (Idle, n - 1 - i)) (sym n) ∙ sym (topFirst-at (λ i. get (r .state) (Idle, i)) (get (r .state) free) i (omega arith)) ∙ ap (λ (l : List ℕ). getD l i 0) (R .stack);
       }
 
+  -- It has its lengths, and is sound.
+  pub rel-intact : {r : Store} {w : Router} → Rel B L r w → Good c w → Sized B r × Sound B r
+  rel-intact {r} R G = ((R .settings .sized, R .whole), sound-iff B r .0 (rel-sound B L R G))
+
   -- A beginning of a proper list is proper.
-  proper-take : (n : ℕ) (ks : List Call) (w : Router) → Proper c w ks → Proper c w (take n ks)
+  proper-take : (n : ℕ) (ks : List Call) (T : ℤ) → Proper c T ks → Proper c T (take n ks)
   unfolding Proper
-  proper-take zero ks w P = tt
-  proper-take (suc n) [] w P = tt
-  proper-take (suc n) (k ∷ ks) w P = (P .0, P .1, proper-take n ks (wholeStep c w k .after) (P .2))
+  proper-take zero ks T P = tt
+  proper-take (suc n) [] T P = tt
+  proper-take (suc n) (k ∷ ks) T P = (P .0, P .1, proper-take n ks (clockAfter c T k) (P .2))
+
+  -- Areas of their lengths are made fresh.
+  pub fresh-made : (r : Store) → Sized B r → (t : ℕ) → makeFresh B r t ≡ record { reply = numberReply 0; after = fresh B t }
+  unfolding makeFresh full
+  fresh-made r (s, m) t = rw (eq-eqb (length (r .state)) stateLength s, eq-eqb (length (r .memory)) 5120 m)
 
   -- The whole claim for one list.
-  after-calls : (t : ℕ) → t < 2 ^ bits c → (ks : List Call) → Proper c (start t) ks → AfterCalls B t ks
+  after-calls : (t : ℕ) → t < 2 ^ bits c → (ks : List Call) → Proper c (pos t) ks → AfterCalls B (ourBytes B) (ourWhole B) (record { reply = numberReply 0; after = fresh B t }) t ks
+  unfolding start
   after-calls t h ks P =
       let a = agreed ks (fresh-rel t h) (start-good c t) P in
-      record { replies = a .replies; sound = rel-sound B L (a .rel) (a .good); shown = rel-shown (a .rel) (a .good); accounts = accounts c (a .run) (start-empty t) }
+      record {
+        made = refl;
+        numbers = numbers-due c (start t) ks;
+        agree = a .replies;
+        sound = rel-intact (a .rel) (a .good);
+        shown = rel-shown (a .rel) (a .good);
+        settings = settings-written c t ks;
+        ticks = noted-ticks ks [] (fresh B t) (start t);
+        accounts = accounts c (a .run (start-written c t)) (start-empty t) (L .some-bytes) (L .few-bytes) refl;
+      }
 
-  -- And so for each of its beginnings.
-  pub holds : Holds B
+  -- And so for each of its beginnings, whatever the areas held.
+  pub holds : Holds B (ourBytes B) (ourWhole B)
   unfolding Holds
-  holds t h ks P n l = after-calls t h (take n ks) (proper-take n ks (start t) P)
-
-  -- ---- no call of a run gets 13, 14 or 15
-
-  -- The router that never turns over gives no number above 5: its questions have none, a refused call gets that of its question, and an accepted one 0.
-  refusal-small : (w : Router) (k : Call) → refusal c w k ≤ 5
-  unfolding refusal asked
-  refusal-small w (control register v) = go (leb register 5) (fits c register v)
-    where
-      go : (a b : Bool) → asked ((a, 4) ∷ (b, 5) ∷ []) ≤ 5
-      go true true = omega arith
-      go true false = omega arith
-      go false b = omega arith
-  refusal-small w (tick k out ans) = go (areasFull (k .arrivals) out ans) (leb (k .arriving) 31 && leb (k .bestEffort) 31)
-    where
-      go : (a b : Bool) → asked ((a, 1) ∷ (b, 3) ∷ []) ≤ 5
-      go true true = omega arith
-      go true false = omega arith
-      go false b = omega arith
-
-  reply-number : (w : Router) (k : Call) (n : ℕ) → (accept c w k .reply .number ≡ 0) × (refuse c w k n .reply .number ≡ n)
-  unfolding accept refuse
-  reply-number w (control register v) n = (refl, refl)
-  reply-number w (tick k out ans) n = (refl, refl)
-
-  whole-number : (w : Router) (k : Call) → wholeStep c w k .reply .number ≤ 5
-  unfolding wholeStep
-  whole-number w k = go (refusal c w k) (refusal-small w k) (ℕ-discrete (refusal c w k) 0)
-    where
-      go : (n : ℕ) → n ≤ 5 → Dec (n ≡ 0) → cond (eqb n 0) (accept c w k) (refuse c w k n) .reply .number ≤ 5
-      go n l (yes z) = rw (eq-eqb n 0 z, reply-number w k n .0) (omega arith)
-      go n l (no z) = rw (ne-eqb n 0 z, reply-number w k n .1) l
-
-  whole-numbers : (ks : List Call) (w : Router) (k : Reply) → List·Memᴰ k (replies (wholeStep c) w ks) → k .number ≤ 5
-  unfolding replies
-  whole-numbers (j ∷ ks) w k (List·Memᴰ·head e) = rw e (whole-number w j)
-  whole-numbers (j ∷ ks) w k (List·Memᴰ·tail m) = whole-numbers ks (wholeStep c w j .after) k m
-
-  pub never-faulty : (t : ℕ) → t < 2 ^ bits c → (ks : List Call) → Proper c (start t) ks → (k : Reply) → List·Memᴰ k (replies (byteStep B) (fresh B t) ks) → k .number ≤ 5
-  never-faulty t h ks P k m = whole-numbers ks (start t) k (subst (List·Memᴰ k) (after-calls t h ks P .replies) m)
+  holds r s t h ks P n l = subst (λ (o : Outcome Store). AfterCalls B (ourBytes B) (ourWhole B) o t (take n ks)) (sym (fresh-made r s t)) (after-calls t h (take n ks) (proper-take n ks (pos t) P))

@@ -1,15 +1,19 @@
--- The board of document 01 is lawful: in its table each byte of the state has one owner, and each fresh field its value, by computed tests (TableLaws). Assumes nothing.
-use Prim.Native.Nat.{ℕ, _+_, _-_, _/_, _%_}
-use mathlib.Core.Path.{_≡_, refl}
-use mathlib.Core.Bool.{true, cond}
+-- The board of document 01 is lawful: in its table each byte of the state has one owner, and each fresh field its value, by computed tests (TableLaws); and it is laid out as document 01 has it. Assumes nothing.
+use Prim.Native.Nat.{ℕ, zero, suc, _+_, _-_, _/_, _%_, _<_}
+use mathlib.Core.Path.{_≡_, refl, sym, _∙_}
+use mathlib.Core.Bool.{true, cond, _&&_}
 use mathlib.Core.List.{_++_}
+use native.Mathlib.Decide.{decLt}
 use native.Mathlib.Omega.{arith}
-use lib.ListN.{length}
-use lib.Dec.{ltb, eqb}
-use Rattle.rules.specs.Areas.{value, digits}
-use Rattle.rules.specs.Board.{Horizon, Latch, Idle, Field, clock, free, getAt, table8, fresh8, board8}
+use lib.ListN.{length, List·getD-eq-default}
+use lib.Dec.{leb, ltb, eqb}
+use borrow.Author.Tests.{eqb-true, ne-eqb, le-leb, le-ltb}
+use Rattle.rules.specs.Areas.{byte, value, digits}
+use Rattle.rules.specs.Board.{Horizon, Latch, Idle, Time, Deadline, Mask, Outgoing, Delay, Routes, Field, clock, free, getAt, table8, fresh8, board8, LaidOut8}
 use Rattle.rules.specs.Order.{all, topFirst}
 use Rattle.rules.proofs.BoardLaws.{Laws, freshField, width}
+use Rattle.rules.proofs.FieldBytes.{get-one, get-two}
+use Rattle.rules.proofs.IndexLaws.{all-at}
 use Rattle.rules.proofs.TableLaws.{kindOf, each, owned, lawful-table}
 
 -- Whose byte stands at offset o.
@@ -38,3 +42,30 @@ whole8 = refl
 -- By its tests.
 pub lawful8 : Laws board8
 lawful8 = lawful-table 1 1804 table8 fresh8 (record { some-bytes = omega arith; few-bytes = omega arith; owner = owner8; owners = owned8; first = refl; wide = wide8; whole = whole8; blank = blank8 })
+
+-- ---- in document 01's numbers
+
+-- A computed test over the bytes after the clock.
+fresh-bytes : all 1803 (λ i. eqb (byte fresh8 i) (cond (eqb (suc i) 10) 1 (cond (leb 12 (suc i) && ltb (suc i) 268) (267 - suc i) 0))) ≡ true
+unfolding all fresh8 topFirst
+fresh-bytes = refl
+
+-- Each field by its line of the table, and past the end of a fresh state nothing.
+pub laid-out8 : LaidOut8
+unfolding digits
+laid-out8 = record {
+  size = refl;
+  settings = λ s i. (get-one table8 s clock refl, get-one table8 s (Horizon, i) refl, get-one table8 s (Latch, i) refl);
+  stack = λ s i l. (get-two table8 s free refl l ∙ omega arith, get-one table8 s (Idle, i) refl);
+  slots = λ s i. (get-one table8 s (Time, i) refl, get-one table8 s (Deadline, i) refl, get-one table8 s (Mask, i) refl);
+  table = λ s i. (get-one table8 s (Outgoing, i) refl, get-one table8 s (Delay, i) refl, get-one table8 s (Routes, i) refl);
+  fresh = fresh;
+}
+  where
+    fresh : (t i : ℕ) → byte (board8 .freshState t) i ≡ cond (eqb i 0) t (cond (eqb i 10) 1 (cond (leb 12 i && ltb i 268) (267 - i) 0))
+    fresh t zero = omega arith
+    fresh t (suc i) = go (decLt i 1803)
+      where
+        go : Dec (i < 1803) → byte fresh8 i ≡ cond (eqb (suc i) 0) t (cond (eqb (suc i) 10) 1 (cond (leb 12 (suc i) && ltb (suc i) 268) (267 - suc i) 0))
+        go (yes l) = rw (ne-eqb (suc i) 0 (λ e. omega arith)) (eqb-true _ _ (all-at (λ i. eqb (byte fresh8 i) (cond (eqb (suc i) 10) 1 (cond (leb 12 (suc i) && ltb (suc i) 268) (267 - suc i) 0))) 1803 i fresh-bytes l))
+        go (no l) = List·getD-eq-default fresh8 0 {n = i} (let e = whole8 in omega arith) ∙ sym (rw (ne-eqb (suc i) 0 (λ e. omega arith), ne-eqb (suc i) 10 (λ e. omega arith), le-leb 12 (suc i) (omega arith), le-ltb (suc i) 268 (omega arith)))

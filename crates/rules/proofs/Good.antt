@@ -18,7 +18,7 @@ use Rattle.rules.proofs.Booleans.{some-inj}
 use Rattle.rules.proofs.Integers.{orders, diff-nat, suc-nat, not-le}
 use Rattle.rules.proofs.AreaLaws.{length-packet, length-payload}
 use Rattle.rules.proofs.Masks.{without-le}
-use Rattle.rules.proofs.WholeLaws.{AllHeld, fresh-held, loses, put-all, lose-all, stored-in, lost-in, admitted-by, sent-by, Passed, arrival-passed, arrival-entry, kept-take, kept-same, held-put, held-lose, emptied-kept, emptied-frame, emptied-held}
+use Rattle.rules.proofs.WholeLaws.{AllAt, AllHeld, fresh-held, loses, put-all, lose-all, stored-in, lost-in, admitted-by, sent-by, Passed, arrival-passed, arrival-entry, kept-take, kept-same, held-put, held-lose, emptied-kept, emptied-frame, emptied-held}
 use Rattle.rules.proofs.Grants.{grant-rests}
 
 -- The times of a packet at the clock t: deadline by a delay in range, not past, and the time less than n ahead.
@@ -137,13 +137,13 @@ module _ (c : ℕ) (w : Router) (call : TickCall) where
 
   -- ---- what holds of every held packet
 
-  -- What is accepted has it, so what is held after the arrivals has.
-  pub after-all : (P : Held → Type 0) → AllHeld P (w .place) → (n : ℕ) → ((p : ℕ) → p < n → (x : Packet) → meets c call (after p) p ≡ accepted x → P (fresh-held x)) → AllHeld P (after n .place)
-  after-all P a n f = after-by (λ r. AllHeld P (r .place)) a n (λ p m b x i l e q. put-all P (after p .place) i (some (fresh-held x)) (λ h k. subst P (some-inj k) (f p m x e)) b)
+  -- What is accepted has it in the place that it takes, so what is held after the arrivals has.
+  pub after-all : (P : ℕ → Held → Type 0) → AllAt P (w .place) → (n : ℕ) → ((p : ℕ) → p < n → (x : Packet) (i : ℕ) (l : List ℕ) → meets c call (after p) p ≡ accepted x → after p .free ≡ i ∷ l → P i (fresh-held x)) → AllAt P (after n .place)
+  after-all P a n f = after-by (λ r. AllAt P (r .place)) a n (λ p m b x i l e q. put-all P (after p .place) i (some (fresh-held x)) (λ h k. subst (P i) (some-inj k) (f p m x i l e q)) b)
 
   -- What losing a port keeps, serving keeps.
-  pub served-all : (P : Held → Type 0) → ((p : ℕ) → p < 5 → (h : Held) → P h → P (loses p h)) → AllHeld P (after 5 .place) → (n : ℕ) → n ≤ 5 → AllHeld P (serving n .place)
-  served-all P f a n l = serving-by (λ r. AllHeld P (r .place)) a n (λ p m r b i k. put-all P (r .place) i (lose p (r .place i)) (lose-all P p (f p (omega arith)) (r .place i) (b i k)) b)
+  pub served-all : (P : ℕ → Held → Type 0) → ((p : ℕ) → p < 5 → (i : ℕ) (h : Held) → P i h → P i (loses p h)) → AllAt P (after 5 .place) → (n : ℕ) → n ≤ 5 → AllAt P (serving n .place)
+  served-all P f a n l = serving-by (λ r. AllAt P (r .place)) a n (λ p m r b i k. put-all P (r .place) i (lose p (r .place i)) (lose-all (P i) p (f p (omega arith) i) (r .place i) (b i k)) b)
 
   -- Serving empties no place.
   pub served-held : (p i : ℕ) → isHeld (serving p .place i) ≡ isHeld (after 5 .place i)
@@ -199,13 +199,13 @@ module _ (c : ℕ) (w : Router) (call : TickCall) (G : Good c w) (I : Input c (w
 
   -- What they store fits, as what was stored does.
   arrivals-window : (p : ℕ) → p ≤ 5 → AllHeld (HeldInWindow c (w .clock) (half c)) (at p .place)
-  arrivals-window p l = after-all c w call (HeldInWindow c (w .clock) (half c)) (λ i m h e.
+  arrivals-window p l = after-all c w call (λ i. HeldInWindow c (w .clock) (half c)) (λ i m h e.
       let f = G .window i m h e in
-      record { window = window-more c (w .clock) (half c - 1) (half c) (h .packet) (omega arith) (f .window); left = f .left }) p (λ q m. accepted-window q (omega arith))
+      record { window = window-more c (w .clock) (half c - 1) (half c) (h .packet) (omega arith) (f .window); left = f .left }) p (λ q m x i k e f. accepted-window q (omega arith) x e)
 
   -- What they store has a port left.
   pub arrivals-busy : (p : ℕ) → AllHeld Busy (at p .place)
-  arrivals-busy p = after-all c w call Busy (G .busy) p (λ q m. accepted-busy q)
+  arrivals-busy p = after-all c w call (λ i. Busy) (G .busy) p (λ q m x i l e f. accepted-busy q x e)
 
   -- Serving loses no place.
   pub served-kept : (p : ℕ) → Kept (then p .place) (then p .free)
@@ -213,7 +213,7 @@ module _ (c : ℕ) (w : Router) (call : TickCall) (G : Good c w) (I : Input c (w
 
   -- What is stored still fits.
   pub served-window : (p : ℕ) → p ≤ 5 → AllHeld (HeldInWindow c (w .clock) (half c)) (then p .place)
-  served-window = served-all c w call (HeldInWindow c (w .clock) (half c)) (λ p l h f. lose-window c (w .clock) (half c) p l h f) (arrivals-window 5 (omega arith))
+  served-window = served-all c w call (λ i. HeldInWindow c (w .clock) (half c)) (λ p l i h f. lose-window c (w .clock) (half c) p l h f) (arrivals-window 5 (omega arith))
 
   -- And so it does at the clock of that router.
   pub window-then : (p : ℕ) → p ≤ 5 → AllHeld (HeldInWindow c (then p .clock) (half c)) (then p .place)

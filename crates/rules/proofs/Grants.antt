@@ -1,8 +1,8 @@
 -- Whom the router that never turns over grants a port: the winner is the least in a strict order, so that no packet that waits for the port goes before it. Assumes nothing.
-use Prim.Native.Nat.{ℕ, _<_}
+use Prim.Native.Nat.{ℕ, _<_, _≤_}
 use mathlib.Core.Path.{_≡_, refl, sym, subst}
 use mathlib.Core.Bool.{Bool, true, false, cond, not, _&&_, _||_, true≢false}
-use mathlib.Core.Logic.{inl, inr}
+use mathlib.Core.Logic.{_⊎_, inl, inr}
 use mathlib.Core.Option.{Option, none, some}
 use native.Mathlib.Omega.{arith}
 use lib.Dec.{T}
@@ -26,36 +26,38 @@ Rests r p (early (i, x)) = (i < 256) × (toServe (r .place i) p ≡ some x) × T
 
 -- ---- what doesn't go before another
 
--- Of two pairs of times, by the first and then by the second: what the one doesn't go before is no later.
-no-later : (a b d e : ℤ) → (ltZ a d || (not (ltZ d a) && ltZ b e)) ≡ false → NoLater (d, e) (a, b)
-no-later a b d e n = go (ltZ a d) (ltZ d a) (ltZ b e) refl refl refl n
+-- Of two pairs of times, by the first and then by the second: what the one doesn't go before is no later, where it goes before the one or its place is no higher.
+no-later : (a b d e : ℤ) (i j : ℕ) → (ltZ a d || (not (ltZ d a) && ltZ b e)) ≡ false → ((ltZ d a || (not (ltZ a d) && ltZ e b)) ≡ true) ⊎ (j ≤ i) → NoLater (d, e, j) (a, b, i)
+no-later a b d e i j = go (ltZ a d) (ltZ d a) (ltZ b e) (ltZ e b) refl refl refl refl
   where
-    go : (l m t : Bool) → ltZ a d ≡ l → ltZ d a ≡ m → ltZ b e ≡ t → (l || (not m && t)) ≡ false → NoLater (d, e) (a, b)
-    go true m t p q z n = absurd (true≢false n)
-    go false true t p q z n = inl (record { lt = true→T (ltZ d a) q })
-    go false false true p q z n = absurd (true≢false n)
-    go false false false p q z n = inr (antisym d a (not-lt a d p) (not-lt d a q), record { le = not-lt b e z })
+    go : (l m t u : Bool) → ltZ a d ≡ l → ltZ d a ≡ m → ltZ b e ≡ t → ltZ e b ≡ u → (l || (not m && t)) ≡ false → ((m || (not l && u)) ≡ true) ⊎ (j ≤ i) → NoLater (d, e, j) (a, b, i)
+    go true m t u p q z y n k = absurd (true≢false n)
+    go false true t u p q z y n k = inl (record { lt = true→T (ltZ d a) q })
+    go false false true u p q z y n k = absurd (true≢false n)
+    go false false false true p q z y n k = inr (antisym d a (not-lt a d p) (not-lt d a q), inl (record { lt = true→T (ltZ e b) y }))
+    go false false false false p q z y n (inl k) = absurd (true≢false (sym k))
+    go false false false false p q z y n (inr k) = inr (antisym d a (not-lt a d p) (not-lt d a q), inr (antisym e b (not-lt b e z) (not-lt e b y), k))
 
 -- By the first alone, too.
-pub first-no-later : (d e a b : ℤ) → NoLater (d, e) (a, b) → T (leZ d a)
-first-no-later d e a b (inl l) = let k = l .lt in omega (arith, orders)
-first-no-later d e a b (inr (q, l)) = subst (λ (z : ℤ). T (leZ d z)) q (omega (arith, orders))
+pub first-no-later : (d e a b : ℤ) (i j : ℕ) → NoLater (d, e, j) (a, b, i) → T (leZ d a)
+first-no-later d e a b i j (inl l) = let k = l .lt in omega (arith, orders)
+first-no-later d e a b i j (inr (q, l)) = subst (λ (z : ℤ). T (leZ d z)) q (omega (arith, orders))
 
--- What a packet on time doesn't go before is on time, and no later by deadline and time; what an early one doesn't go before is on time, or no later by time and deadline.
-abbrev pub Behind : Packet → Packet → Bool → Bool → Type 0
-Behind x y false t = (t ≡ false) × NoLater (y .deadline, y .time) (x .deadline, x .time)
-Behind x y true false = Unit {0}
-Behind x y true true = NoLater (y .time, y .deadline) (x .time, x .deadline)
+-- What a packet on time at i doesn't go before is on time, and no later by deadline, time and place; what an early one doesn't go before is on time, or no later by time, deadline and place.
+abbrev pub Behind : ℕ → Packet → ℕ → Packet → Bool → Bool → Type 0
+Behind i x j y false t = (t ≡ false) × NoLater (y .deadline, y .time, j) (x .deadline, x .time, i)
+Behind i x j y true false = Unit {0}
+Behind i x j y true true = NoLater (y .time, y .deadline, j) (x .time, x .deadline, i)
 
-pub not-before : (t : ℤ) (x y : Packet) (a b : Bool) → ltZ t (x .time) ≡ a → ltZ t (y .time) ≡ b → by (packetKey t) comparator x y ≡ false → Behind x y a b
+pub not-before : (t : ℤ) (i : ℕ) (x : Packet) (j : ℕ) (y : Packet) (a b : Bool) → ltZ t (x .time) ≡ a → ltZ t (y .time) ≡ b → by (packetKey t) comparator x y ≡ false → (by (packetKey t) comparator y x ≡ true) ⊎ (j ≤ i) → Behind i x j y a b
 unfolding by comparator then onTimeFirst
-not-before t x y a b p q n = go a b (rw (sym p, sym q) n)
+not-before t i x j y a b p q n k = go a b (rw (sym p, sym q) n) (rw (sym p, sym q) k)
   where
-    go : (a b : Bool) → comparator (packetKeyOf a x) (packetKeyOf b y) ≡ false → Behind x y a b
-    go false true n = absurd (true≢false n)
-    go false false n = (refl, no-later (x .deadline) (x .time) (y .deadline) (y .time) n)
-    go true true n = no-later (x .time) (x .deadline) (y .time) (y .deadline) n
-    go true false n = tt
+    go : (a b : Bool) → comparator (packetKeyOf a x) (packetKeyOf b y) ≡ false → (comparator (packetKeyOf b y) (packetKeyOf a x) ≡ true) ⊎ (j ≤ i) → Behind i x j y a b
+    go false true n k = absurd (true≢false n)
+    go false false n k = (refl, no-later (x .deadline) (x .time) (y .deadline) (y .time) i j n k)
+    go true true n k = no-later (x .time) (x .deadline) (y .time) (y .deadline) i j n k
+    go true false n k = tt
 
 -- ---- the grant
 
@@ -75,17 +77,17 @@ module _ (r : Router) (b p : ℕ) where
   abbrev isNear : Packet → Bool
   isNear x = leZ (x .time -ℤ r .clock) (pos (r .horizon p))
 
-  -- Against each waiting packet there is a winner that it doesn't go before.
-  wins : (i : ℕ) (x : Packet) → i < 256 → waiting i ≡ some x → (j : ℕ) × (y : Packet) × (winner ≡ some (j, y)) × (before x y ≡ false)
+  -- Against each waiting packet there is a winner: the packet doesn't go before it, and it goes before the packet or its place is no higher.
+  wins : (i : ℕ) (x : Packet) → i < 256 → waiting i ≡ some x → (j : ℕ) × (y : Packet) × (winner ≡ some (j, y)) × (before x y ≡ false) × ((before y x ≡ true) ⊎ (j ≤ i))
   wins = least-beats (strict-by (packetKey (r .clock)) strict-comparator) waiting 256
 
   -- A waiting packet whose time has come makes the port send on time, and none that it goes before.
-  pub grant-on-time : (i : ℕ) (x : Packet) → i < 256 → waiting i ≡ some x → T (leZ (x .time) (r .clock)) → (j : ℕ) × (y : Packet) × (grant r b p ≡ onTime (j, y)) × NoLater (y .deadline, y .time) (x .deadline, x .time)
+  pub grant-on-time : (i : ℕ) (x : Packet) → i < 256 → waiting i ≡ some x → T (leZ (x .time) (r .clock)) → (j : ℕ) × (y : Packet) × (grant r b p ≡ onTime (j, y)) × NoLater (y .deadline, y .time, j) (x .deadline, x .time, i)
   unfolding grant granted
   grant-on-time i x l e h =
-      let (j, y, q, n) = wins i x l e in
+      let (j, y, q, n, k) = wins i x l e in
       let on-time = fails (isEarly x) (λ k. let m = true→T (isEarly x) k in omega (arith, orders)) in
-      let (z, d) = not-before (r .clock) x y false (isEarly y) on-time refl n in
+      let (z, d) = not-before (r .clock) i x j y false (isEarly y) on-time refl n k in
       (j, y, rw (q, z), d)
 
   -- Best-effort has the port only where it waits.
@@ -118,12 +120,12 @@ module _ (r : Router) (b p : ℕ) where
         go (some (j, y)) q = rw (winner-early j y q)
 
     -- Else a packet within the horizon makes it send early, and none that it goes before.
-    pub grant-early : has b p ≡ false → (i : ℕ) (x : Packet) → i < 256 → waiting i ≡ some x → T (isNear x) → (j : ℕ) × (y : Packet) × (grant r b p ≡ early (j, y)) × NoLater (y .time, y .deadline) (x .time, x .deadline)
+    pub grant-early : has b p ≡ false → (i : ℕ) (x : Packet) → i < 256 → waiting i ≡ some x → T (isNear x) → (j : ℕ) × (y : Packet) × (grant r b p ≡ early (j, y)) × NoLater (y .time, y .deadline, j) (x .time, x .deadline, i)
     unfolding grant granted
     grant-early f i x l e h =
-        let (j, y, q, n) = wins i x l e in
-        let le = not-before (r .clock) x y true true (T→true (isEarly x) (all-early i x l e)) (winner-early j y q) n in
-        let m = first-no-later _ _ _ _ le in
+        let (j, y, q, n, k) = wins i x l e in
+        let le = not-before (r .clock) i x j y true true (T→true (isEarly x) (all-early i x l e)) (winner-early j y q) n k in
+        let m = first-no-later _ _ _ _ _ _ le in
         let near = T→true (isNear y) (omega (arith, orders, diff-nat (x .time) (r .clock), diff-nat (y .time) (r .clock))) in
         (j, y, rw (q, winner-early j y q, f, near), le)
 

@@ -1,12 +1,13 @@
 pub mod Booleans
-pub mod OrderLaws
 pub mod IndexLaws
+pub mod OrderLaws
 pub mod Masks
 pub mod ClockLaws
 pub mod Integers
 pub mod AreaLaws
 pub mod BoardLaws
 pub mod FieldBytes
+pub mod ByteLaws
 pub mod Offsets
 pub mod TimeLaws
 pub mod Comparator
@@ -16,6 +17,7 @@ pub mod StateLaws
 pub mod WholeLaws
 pub mod Grants
 pub mod Good
+pub mod GivenLaws
 pub mod Accounting
 pub mod Relation
 pub mod RefineArrivals

@@ -1,5 +1,5 @@
 -- Orders: by a key, and one then another, a strict order is made of strict ones, the comparator's too; and nothing goes before the least in a strict order. Assumes nothing.
-use Prim.Native.Nat.{ℕ, zero, suc, _<_}
+use Prim.Native.Nat.{ℕ, zero, suc, _<_, _≤_}
 use mathlib.Core.Path.{_≡_, refl, sym, ap, subst, _∙_}
 use mathlib.Core.Bool.{Bool, true, false, cond, not, _&&_, _||_, true≢false}
 use mathlib.Core.Logic.{_⊎_, inl, inr, ⊎-elim}
@@ -11,6 +11,7 @@ use lib.Signed.{ltZ}
 use Rattle.rules.specs.Order.{better, least, Order, by, then, onTimeFirst, comparator}
 use Rattle.rules.proofs.Booleans.{some-inj, none-some, true→T, T→true}
 use Rattle.rules.proofs.Integers.{orders, not-lt}
+use Rattle.rules.proofs.IndexLaws.{least-in}
 
 -- ---- strict orders
 
@@ -113,45 +114,48 @@ module _ {A : Type 0} (f g : Order A) where
 -- ---- the least in a strict order is least
 
 module _ {A : Type 0} {less : Order A} (S : Strict less) where
-  -- Against each key there is a least that it is not less than.
-  abbrev Beats : Option (ℕ × A) → A → Type 0
-  Beats v x = (j : ℕ) × (y : A) × (v ≡ some (j, y)) × (less x y ≡ false)
+  -- Against the key x at i there is a least: x is not less than it, and it is less than x or its index no higher.
+  abbrev Beats : Option (ℕ × A) → ℕ → A → Type 0
+  Beats v i x = (j : ℕ) × (y : A) × (v ≡ some (j, y)) × (less x y ≡ false) × ((less y x ≡ true) ⊎ (j ≤ i))
 
-  -- A key is not less than the better of it and another.
-  better-new : (v : Option (ℕ × A)) (k : ℕ) (x : A) → Beats (better less v k (some x)) x
+  -- A key is beaten by the better of it and another of a lower index.
+  better-new : (v : Option (ℕ × A)) (k : ℕ) (x : A) → ((j : ℕ) (y : A) → v ≡ some (j, y) → j < k) → Beats (better less v k (some x)) k x
   unfolding better
-  better-new none k x = (k, x, refl, fails (less x x) (S .irrefl x))
-  better-new (some w) k x = go (less x (w .1)) refl
+  better-new none k x l = (k, x, refl, fails (less x x) (S .irrefl x), inr (omega arith))
+  better-new (some w) k x l = go (less x (w .1)) refl
     where
-      go : (t : Bool) → less x (w .1) ≡ t → Beats (cond t (some (k, x)) (some w)) x
-      go true e = (k, x, refl, fails (less x x) (S .irrefl x))
-      go false e = (w .0, w .1, refl, e)
+      go : (t : Bool) → less x (w .1) ≡ t → Beats (cond t (some (k, x)) (some w)) k x
+      go true e = (k, x, refl, fails (less x x) (S .irrefl x), inr (omega arith))
+      go false e = (w .0, w .1, refl, e, inr (let m = l (w .0) (w .1) refl in omega arith))
 
   -- What beats a key is replaced only by what is less.
-  better-old : (v : Option (ℕ × A)) (k : ℕ) (y : Option A) (x : A) → Beats v x → Beats (better less v k y) x
+  better-old : (v : Option (ℕ × A)) (k : ℕ) (y : Option A) (i : ℕ) (x : A) → Beats v i x → Beats (better less v k y) i x
   unfolding better
-  better-old none k y x (j, z, e, l) = none-some e
-  better-old (some w) k none x b = b
-  better-old (some w) k (some y) x (j, z, e, l) = go (less y (w .1)) refl
+  better-old none k y i x (j, z, e, l, m) = none-some e
+  better-old (some w) k none i x b = b
+  better-old (some w) k (some y) i x (j, z, e, l, m) = go (less y (w .1)) refl
     where
       same-z : w .1 ≡ z
       same-z = ap (λ (w : ℕ × A). w .1) (some-inj e)
 
-      go : (t : Bool) → less y (w .1) ≡ t → Beats (cond t (some (k, y)) (some w)) x
-      go true q = (k, y, refl, fails (less x y) (λ h. true≢false (sym (S .trans x y (w .1) h q) ∙ ap (less x) same-z ∙ l)))
-      go false q = (j, z, e, l)
+      go : (t : Bool) → less y (w .1) ≡ t → Beats (cond t (some (k, y)) (some w)) i x
+      go true q =
+          let n : less x (w .1) ≡ false = ap (less x) same-z ∙ l in
+          (k, y, refl, fails (less x y) (λ h. true≢false (sym (S .trans x y (w .1) h q) ∙ n)), ⊎-elim (λ h. inl h) (λ h. absurd (true≢false (sym h ∙ n))) (S .cotrans y x (w .1) q))
+      go false q = (j, z, e, l, m)
 
-  -- No key is less than the least.
-  pub least-beats : (key : ℕ → Option A) (k i : ℕ) (x : A) → i < k → key i ≡ some x → Beats (least less key k) x
+  -- No key is less than the least, and no equal one has a lower index.
+  pub least-beats : (key : ℕ → Option A) (k i : ℕ) (x : A) → i < k → key i ≡ some x → Beats (least less key k) i x
   unfolding least
   least-beats key zero i x l e = absurd (omega arith)
   least-beats key (suc k) i x l e = go (λ m. least-beats key k i x m e) (decLt i k)
     where
-      go : (i < k → Beats (least less key k) x) → Dec (i < k) → Beats (better less (least less key k) k (key k)) x
-      go f (yes m) = better-old (least less key k) k (key k) x (f m)
+      go : (i < k → Beats (least less key k) i x) → Dec (i < k) → Beats (better less (least less key k) k (key k)) i x
+      go f (yes m) = better-old (least less key k) k (key k) i x (f m)
       go f (no m) =
-          let j : i ≡ k = omega arith in
-          subst (λ (y : Option A). Beats (better less (least less key k) k y) x) (sym e ∙ ap key j) (better-new (least less key k) k x)
+          let j : k ≡ i = omega arith in
+          subst (λ (i : ℕ). Beats (better less (least less key k) k (key k)) i x) j
+          (subst (λ (y : Option A). Beats (better less (least less key k) k y) k x) (sym e ∙ ap key (sym j)) (better-new (least less key k) k x (λ a b q. least-in less key k a b q .0)))
 
 -- ---- the comparator
 

@@ -15,6 +15,7 @@ use Rattle.rules.specs.Account.{Kept, stored}
 use Rattle.rules.specs.Areas.{bits, half, value, digits, packet, stamp, packed, portsBelow, perPort, answersArea, Grant, nobody, bestEffort, onTime, early, elem, distinct, Store}
 use Rattle.rules.specs.Board.{Board, Horizon, Latch, Mask, Delay, Routes, clock, free}
 use Rattle.rules.specs.Clock.{cut, plus, minus, offset}
+use Rattle.rules.specs.Entries.{StoredSound, delayOf, offsetOf}
 use Rattle.rules.specs.Questions.{sound, full}
 use Rattle.rules.specs.Tick.{arrived, served, withdrawn, returned}
 use Rattle.rules.specs.Whole.{Held, Router, TickCall, emptied, packetBytes, outgoingBytes, answerBytes, isHeld}
@@ -28,7 +29,7 @@ use Rattle.rules.proofs.Grants.{Rests, grant-rests, toServe-held}
 use Rattle.rules.proofs.Good.{InWindow, HeldInWindow, Busy, Good, Input, window-more, after, arrivals-busy, serving, served-held, served-kept, served-window, window-then}
 use Rattle.rules.proofs.TimeLaws.{cut-suc, window-offset, window-delay, window-from}
 use Rattle.rules.proofs.AreaLaws.{value-digits, length-digits, length-packed, packet-perPort}
-use Rattle.rules.proofs.Soundness.{StoredSound, delayOf, offsetOf, lists-sound, sound-iff}
+use Rattle.rules.proofs.Soundness.{lists-sound, sound-iff}
 use Rattle.rules.proofs.StateLaws.{reads-self, reads-as, reads-put, reads-off}
 use Rattle.rules.proofs.Relation.{on-settings, SettingsShown, SlotShows, Rel, with-state, rel-room, rel-settings}
 use Rattle.rules.proofs.RefineArrivals.{arrived-rel, arrived-code}
@@ -193,7 +194,7 @@ module _ (B : Board) (L : Laws B) where
       sends-same p l = ap (λ (x : List ℕ). packet x p) outgoing-same ∙ packet-perPort (λ p. Whole.grantBytes c (Whole.ticked c w call .report .grant p)) grant-length p l
 
       -- The answers are equal.
-      answers-same : Tick.ticked B r (call .arriving) b (call .arrivals) .reply .answers ≡ answerBytes (Whole.ticked c w call .report)
+      pub answers-same : Tick.ticked B r (call .arriving) b (call .arrivals) .reply .answers ≡ answerBytes (Whole.ticked c w call .report)
       unfolding Tick.ticked Whole.ticked answerBytes
       answers-same = answers-area (λ p l. served-code B L G call I R₁ p l) (λ p l. arrived-code B L R G call I p l) (λ p l. withdrawals-same B L R₂ K₂ F₂ (r₁ .state) was p l)
 

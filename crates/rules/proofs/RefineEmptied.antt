@@ -12,7 +12,6 @@ use borrow.Author.Tests.{eq-eqb, ne-eqb, eqb-true, lt-ltb, le-ltb}
 use Rattle.rules.specs.Account.{stored, Kept}
 use Rattle.rules.specs.Areas.{half, packet, has, Store}
 use Rattle.rules.specs.Board.{Board, Kind, Free, Idle, Time, Deadline, Mask, Field, clock, free}
-use Rattle.rules.specs.Demand3.{HeldShown}
 use Rattle.rules.specs.Order.{count, counted, topFirst}
 use Rattle.rules.specs.Questions.{stack}
 use Rattle.rules.specs.Tick.{isDue as isDueNow, withdrawn, withdrawals, giveBack, returned}
@@ -26,7 +25,7 @@ use Rattle.rules.proofs.WholeLaws.{AllHeld, emptied-at, emptied-place, 
 use Rattle.rules.proofs.Good.{HeldInWindow}
 use Rattle.rules.proofs.TimeLaws.{window-due}
 use Rattle.rules.proofs.StateLaws.{Reads, none-out, reads-self, reads-through, reads-less, reads-put, reads-apart, reads-off, marked, marked-none, marked-next, stack-same, topFirst-same, length-stack}
-use Rattle.rules.proofs.Relation.{SlotShows, SettingsShown, settings-places, Rel, with-state, rel-room}
+use Rattle.rules.proofs.Relation.{HeldShown, SlotShows, SettingsShown, settings-places, Rel, with-state, rel-room}
 
 -- Something held is counted.
 held-counts : (f : ℕ → Option Held) (i : ℕ) → i < 256 → isHeld (f i) ≡ true → 0 < stored f

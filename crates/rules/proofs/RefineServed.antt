@@ -12,7 +12,6 @@ use Rattle.rules.specs.Account.{Kept}
 use Rattle.rules.specs.Areas.{bits, half, packet, has, without, Store, Grant, nobody, bestEffort, onTime, early, grantCode}
 use Rattle.rules.specs.Board.{Board, Horizon, Idle, Time, Deadline, Mask, clock, free}
 use Rattle.rules.specs.Clock.{cut}
-use Rattle.rules.specs.Demand3.{HeldShown}
 use Rattle.rules.specs.Order.{least, Order, by, Key, comparator}
 use Rattle.rules.specs.Tick.{slotKey, candidate}
 use Rattle.rules.specs.Whole.{Packet, Held, Router, TickCall, withPlaces, toServe, packetKey, lose, packetBytes}
@@ -26,7 +25,7 @@ use Rattle.rules.proofs.WholeLaws.{AllHeld}
 use Rattle.rules.proofs.Grants.{Rests, grant-rests, toServe-held}
 use Rattle.rules.proofs.Good.{Good, InWindow, HeldInWindow, Input, after, serving, window-then, served-kept}
 use Rattle.rules.proofs.StateLaws.{Reads, none-out, reads-self, reads-put, reads-off, stack-same}
-use Rattle.rules.proofs.Relation.{SlotShows, Rel, with-state, rel-room, shows-put, settings-places}
+use Rattle.rules.proofs.Relation.{HeldShown, SlotShows, Rel, with-state, rel-room, shows-put, settings-places}
 
 -- A grant without its packet.
 strip : Grant (ℕ × Packet) → Grant ℕ

@@ -12,9 +12,8 @@ use Rattle.rules.specs.Account.{Kept}
 use Rattle.rules.specs.Areas.{bits, packet, Store}
 use Rattle.rules.specs.Board.{Board, Kind, Clock, Horizon, Latch, Free, Idle, Time, Deadline, Mask, Outgoing, Delay, Routes, Field, clock, free}
 use Rattle.rules.specs.Clock.{cut}
-use Rattle.rules.specs.Demand3.{HeldShown}
 use Rattle.rules.specs.Questions.{stack}
-use Rattle.rules.specs.Whole.{Held, Router, withPlaces, put}
+use Rattle.rules.specs.Whole.{Held, Router, withPlaces, put, packetBytes}
 use Rattle.rules.proofs.BoardLaws.{Laws, Valid}
 use Rattle.rules.proofs.StateLaws.{Reads, reads-as, stack-same, length-stack}
 use Rattle.rules.proofs.WholeLaws.{put-same, put-other}
@@ -71,6 +70,16 @@ on-settings σ τ t h q n (Routes, i) e v = n i v .2
 -- There are 256 places.
 pub kept-room : {f : ℕ → Option Held} {l : List ℕ} → Kept f l → length l ≤ 256
 kept-room K = let e = K .all in omega arith
+
+module _ (B : Board) where
+  open Board B using (clockBytes as c, get)
+
+  -- Slot i and its memory show a packet with its ports left.
+  pub record HeldShown (r : Store) (i : ℕ) (x : Held) : Type 0 where
+    pub time : get (r .state) (Time, i) ≡ cut (bits c) (x .packet .time)
+    pub deadline : get (r .state) (Deadline, i) ≡ cut (bits c) (x .packet .deadline)
+    pub left : get (r .state) (Mask, i) ≡ x .left
+    pub bytes : packet (r .memory) i ≡ packetBytes c (x .packet)
 
 module _ (B : Board) (L : Laws B) where
   open Board B using (clockBytes as c, get)

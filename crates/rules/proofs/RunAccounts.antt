@@ -1,23 +1,27 @@
 -- The accounts of a run, by induction over it: what its ticks send and withdraw is what they accepted or found; each accepted packet is one by its tick and port of arrival. Assumes nothing.
-use Prim.Native.Nat.{ℕ, zero, suc, _+_, _<_, _≤_}
+use Prim.Native.Nat.{ℕ, zero, suc, _+_, _-_, _<_, _≤_}
 use mathlib.Core.Path.{_≡_, refl, sym, ap, ap₂, subst, _∙_}
 use mathlib.Core.Bool.{Bool, true, false, cond, _&&_, true≢false, and-true, and-false}
 use mathlib.Core.Logic.{_≢_, _⊎_, inl, inr}
 use mathlib.Core.List.{List, [], _∷_, _++_, List·Memᴰ, List·Memᴰ·head, List·Memᴰ·tail, List·Memᴰ·not-nil, List·Memᴰ·append-cases, List·Memᴰ·eq-of-singleton, Memᴰ·append-left}
 use mathlib.Core.Option.{Option, none, some}
 use native.Mathlib.Omega.{arith}
+use lib.ListN.{length, getD, drop}
+use lib.Seq.{getD-drop, drop-drop}
 use lib.Dec.{T, eqb}
 use lib.IntN.{ℤ, pos, _-ℤ_}
 use lib.Signed.{leZ, ltZ, _≤ℤ_}
 use borrow.Author.Tests.{eq-eqb, eqb-true}
-use Rattle.rules.specs.Account.{NotedTick, samePacket, isSent, times, isLeft, leftOn, sentOn, withdrawnOn, Accepted, Permitted, Genuine}
-use Rattle.rules.specs.Areas.{packet, Grant, nobody, bestEffort, onTime, early}
+use Rattle.rules.specs.Account.{NotedTick, samePacket, isSent, times, isLeft, leftOn, sentOn, withdrawnOn, storedBelow, Accepted, Permitted, Genuine}
+use Rattle.rules.specs.Areas.{byte, packet, grantCode, Grant, nobody, bestEffort, onTime, early}
+use Rattle.rules.specs.Given.{lastHorizon}
 use Rattle.rules.specs.Order.{count, counted}
-use Rattle.rules.specs.Whole.{Packet, Held, Router, withPlaces, Arrival, absent, refused, accepted, toServe, grant, isDue, due, withdrawn, meets, ticked, Report, packetBytes, grantBytes}
+use Rattle.rules.specs.Whole.{Packet, Held, Router, withPlaces, Arrival, absent, refused, accepted, toServe, grant, isDue, due, withdrawn, meets, arrived, ticked, Report, arrivalCode, answerBytes}
 use Rattle.rules.proofs.Booleans.{none-some, and-left, and-right, true→T, T→true, ¬T→false}
-use Rattle.rules.proofs.IndexLaws.{count-none, count-only, count-some}
+use Rattle.rules.proofs.IndexLaws.{count-none, count-only, count-some, count-same}
 use Rattle.rules.proofs.Integers.{orders, diff-nat, antisym, later-differs}
-use Rattle.rules.proofs.WholeLaws.{AllHeld, emptied-held}
+use Rattle.rules.proofs.WholeLaws.{AllAt, arrival-drop, emptied-held}
+use Rattle.rules.proofs.ByteLaws.{answer-at}
 use Rattle.rules.proofs.Grants.{Rests, grant-rests, toServe-held}
 use Rattle.rules.proofs.Good.{Good, after, after-all, accepted-passed, serving, clock-at, served-all, served-window, served-frame}
 use Rattle.rules.proofs.Accounting.{taken, for-port, tick-left}
@@ -82,13 +86,13 @@ withdrawn-held t f p (suc n) x m = go (List·Memᴰ·append-cases (withdrawn t f
 module _ (c : ℕ) where
   -- ---- one tick
 
-  -- x was accepted by the tick d.
-  abbrev Taken : NotedTick → Packet → Type 0
-  Taken d x = (q : ℕ) × (q < 5) × (d .report .arrival q ≡ accepted x) × (x .arrived ≡ d .met .clock) × (x .input ≡ q)
+  -- x was accepted by the tick d, and took the place i.
+  abbrev Taken : NotedTick → Packet → ℕ → Type 0
+  Taken d x i = (q : ℕ) × (q < 5) × (d .report .arrival q ≡ accepted x) × (i ≡ getD (d .met .free) (storedBelow d q) 0)
 
-  -- Sent in its window and under its header.
+  -- Sent in its window.
   abbrev Sent : NotedTick → ℕ → Packet → Type 0
-  Sent d p x = (x .arrived ≤ℤ d .met .clock) × ((x .time -ℤ pos (d .met .horizon p)) ≤ℤ d .met .clock) × (d .met .clock ≤ℤ x .deadline) × (packet (d .outgoing) p ≡ packetBytes c x)
+  Sent d p x = (x .arrived ≤ℤ d .met .clock) × ((x .time -ℤ pos (lastHorizon c p (d .past))) ≤ℤ d .met .clock) × (d .met .clock ≤ℤ x .deadline)
 
   module _ {d : NotedTick} (t : Ticking c d) where
     abbrev r : Router
@@ -115,10 +119,31 @@ module _ (c : ℕ) where
     withdrawn-reported p = ap (λ (k : Report). k .withdrawn p) (t .report)
 
     -- An accepted packet bears the clock and the port of its tick.
-    dated : (q : ℕ) (y : Packet) → d .report .arrival q ≡ accepted y → (y .arrived ≡ r .clock) × (y .input ≡ q)
+    pub dated : (q : ℕ) (y : Packet) → d .report .arrival q ≡ accepted y → (y .arrived ≡ r .clock) × (y .input ≡ q)
     dated q y e =
         let m = accepted-passed c r (d .call) q y (sym (arrival-reported q) ∙ e) in
         (sym (ap (λ (z : Packet). z .arrived) (m .packet)), sym (ap (λ (z : Packet). z .input) (m .packet)))
+
+    -- What the answers say was stored, was.
+    pub stored-below : (p : ℕ) → p ≤ 5 → storedBelow d p ≡ count p (λ q. eqb (arrivalCode (meets c (d .call) (after c r (d .call) q) q)) 1)
+    unfolding storedBelow answerBytes
+    stored-below p l = count-same (λ q. eqb (byte (d .answers) (5 + q)) 1) (λ q. eqb (arrivalCode (meets c (d .call) (after c r (d .call) q) q)) 1) p (λ q m.
+        ap (λ (n : ℕ). eqb n 1)
+        (ap (λ (a : List ℕ). byte a (5 + q)) (t .answers) ∙ answer-at (λ p. grantCode (d .report .grant p)) (λ p. arrivalCode (d .report .arrival p)) (λ p. length (d .report .withdrawn p)) q (omega arith) .1 ∙ ap arrivalCode (arrival-reported q)))
+
+    -- Each accepted packet takes the first free place, so the free list is what they leave of the one met: by induction over the ports.
+    arrivals-drop : (p : ℕ) → after c r (d .call) p .free ≡ drop (count p (λ q. eqb (arrivalCode (meets c (d .call) (after c r (d .call) q) q)) 1)) (r .free)
+    unfolding arrived count
+    arrivals-drop zero = refl
+    arrivals-drop (suc p) =
+        let k = counted (eqb (arrivalCode (meets c (d .call) (after c r (d .call) p) p)) 1) in
+        arrival-drop c (after c r (d .call) p) (d .call .arriving) p (packet (d .call .arrivals) p) (d .call .times p) ∙ ap (drop k) (arrivals-drop p) ∙ drop-drop k (count p (λ q. eqb (arrivalCode (meets c (d .call) (after c r (d .call) q) q)) 1)) (r .free)
+
+    pub free-taken : (p : ℕ) → p ≤ 5 → after c r (d .call) p .free ≡ drop (storedBelow d p) (r .free)
+    free-taken p l = arrivals-drop p ∙ ap (λ (k : ℕ). drop k (r .free)) (sym (stored-below p l))
+
+    place-taken : (p : ℕ) → p ≤ 5 → (i : ℕ) (l : List ℕ) → after c r (d .call) p .free ≡ i ∷ l → i ≡ getD (r .free) (storedBelow d p) 0
+    place-taken p h i l e = ap (λ (l : List ℕ). getD l 0 0) (sym e ∙ free-taken p h) ∙ getD-drop (storedBelow d p) (r .free) 0 0 ∙ ap (λ (k : ℕ). getD (r .free) k 0) (omega arith)
 
     -- An arrival that brings no packet the same as x takes none.
     untaken : (m : Packet → Bool) (x : Packet) (q : ℕ) → ((y : Packet) → d .report .arrival q ≡ accepted y → samePacket x y ≡ false) → taken m x (d .report .arrival q) ≡ false
@@ -157,26 +182,31 @@ module _ (c : ℕ) where
         let f = served-window c r (d .call) (t .good) (t .input) q hq i l h ev in
         (subst (λ (y : Packet). T (leZ (y .arrived) (r .clock))) ex (f .window .arrived), subst (λ (y : Packet). T (leZ (r .clock) (y .deadline))) ex (f .window .due))
 
+    -- And has its data whole.
+    pub size-at : (p q : ℕ) → q ≤ 5 → (i : ℕ) (x : Packet) → i < 256 → toServe (then q .place i) p ≡ some x → length (x .payload) ≡ 20 - (1 + c)
+    size-at p q hq i x l e =
+        let (h, ev, ex, b) = toServe-held (then q .place i) p x e in
+        subst (λ (y : Packet). length (y .payload) ≡ 20 - (1 + c)) ex (served-window c r (d .call) (t .good) (t .input) q hq i l h ev .window .size)
+
     -- A granted packet rests at its place, by the clock and horizon met.
-    rests : (p : ℕ) (g : Grant (ℕ × Packet)) → d .report .grant p ≡ g → Rests (router-at p) p g
+    pub rests : (p : ℕ) (g : Grant (ℕ × Packet)) → d .report .grant p ≡ g → Rests (router-at p) p g
     rests p g e = subst (Rests (router-at p) p) (sym (grant-reported p) ∙ e) (grant-rests (router-at p) (d .call .bestEffort) p)
 
     module _ (p : ℕ) (hp : p < 5) (i : ℕ) (x : Packet) where
       -- Its time has come, so it is not after the clock and horizon.
       sent-on-time : d .report .grant p ≡ onTime (i, x) → Sent d p x
-      unfolding grantBytes
       sent-on-time e =
           let (l, v, k) = rests p (onTime (i, x)) e in
           let (s, a) = window-at p p (omega arith) i x l v in
-          (record { le = s }, record { le = omega (arith, orders, diff-nat (x .time) (pos (r .horizon p))) }, record { le = a }, t .sends p hp ∙ ap (grantBytes c) e)
+          (record { le = s }, record { le = omega (arith, orders, diff-nat (x .time) (pos (lastHorizon c p (d .past)))) }, record { le = a })
 
       -- It is within the horizon.
       sent-early : d .report .grant p ≡ early (i, x) → Sent d p x
-      unfolding grantBytes
       sent-early e =
           let (l, v, b, k) = rests p (early (i, x)) e in
           let (s, a) = window-at p p (omega arith) i x l v in
-          (record { le = s }, record { le = omega (arith, orders, diff-nat (x .time) (r .clock), diff-nat (x .time) (pos (r .horizon p))) }, record { le = a }, t .sends p hp ∙ ap (grantBytes c) e)
+          let h = t .settings .horizon p in
+          (record { le = s }, record { le = omega (arith, orders, diff-nat (x .time) (r .clock), diff-nat (x .time) (pos (lastHorizon c p (d .past)))) }, record { le = a })
 
     -- A withdrawn packet waits, and is due.
     withdrawn-at : (p : ℕ) (x : Packet) → List·Memᴰ x (d .report .withdrawn p) → (i : ℕ) × (i < 256) × (toServe (then 5 .place i) p ≡ some x) × (isDue (then 5 .clock) x ≡ true)
@@ -194,27 +224,27 @@ module _ (c : ℕ) where
 
     -- ---- where its packets come from
 
-    -- K is known of what is held before the tick, and of what it accepts.
-    module _ (K : Packet → Type 0) (new : (x : Packet) → Taken d x → K x) (all : AllHeld (λ h. K (h .packet)) (r .place)) where
+    -- K is known of what is held before the tick, and of what it accepts, with its place.
+    module _ (K : ℕ → Packet → Type 0) (new : (x : Packet) (i : ℕ) → Taken d x i → K i x) (all : AllAt (λ i h. K i (h .packet)) (r .place)) where
       -- Serving makes no packet.
-      served-known : (q : ℕ) → q ≤ 5 → AllHeld (λ h. K (h .packet)) (then q .place)
-      served-known = served-all c r (d .call) (λ h. K (h .packet)) (λ p l h k. k)
-          (after-all c r (d .call) (λ h. K (h .packet)) all 5 (λ q m x e. let k = arrival-reported q ∙ e in new x (q, m, k, dated q x k .0, dated q x k .1)))
+      served-known : (q : ℕ) → q ≤ 5 → AllAt (λ i h. K i (h .packet)) (then q .place)
+      served-known = served-all c r (d .call) (λ i h. K i (h .packet)) (λ p l i h k. k)
+          (after-all c r (d .call) (λ i h. K i (h .packet)) all 5 (λ q m x i l e f. new x i (q, m, arrival-reported q ∙ e, place-taken q (omega arith) i l f)))
 
       -- Neither does emptying.
-      ended-known : AllHeld (λ h. K (h .packet)) (next c d .place)
+      ended-known : AllAt (λ i h. K i (h .packet)) (next c d .place)
       unfolding ticked
       ended-known i l h e = served-known 5 (omega arith) i l h (emptied-held (then 5 .clock) (then 5) i l h e .0)
 
-      toServe-known : (q : ℕ) → q ≤ 5 → (i p : ℕ) (x : Packet) → i < 256 → toServe (then q .place i) p ≡ some x → K x
-      toServe-known q hq i p x l e = let (h, ev, ex, b) = toServe-held (then q .place i) p x e in subst K ex (served-known q hq i l h ev)
+      toServe-known : (q : ℕ) → q ≤ 5 → (i p : ℕ) (x : Packet) → i < 256 → toServe (then q .place i) p ≡ some x → K i x
+      toServe-known q hq i p x l e = let (h, ev, ex, b) = toServe-held (then q .place i) p x e in subst (K i) ex (served-known q hq i l h ev)
 
   -- ---- the ticks of a run
 
   -- A run ends in a good router.
   pub run-good : {r w : Router} {h : List NotedTick} → Run c r h w → Good c w
   run-good (rest G) = G
-  run-good (quiet ec ep R) = run-good R
+  run-good (quiet ec ep ef R) = run-good R
   run-good (ticks d t R) = run-good R
 
   -- How often the ticks accepted x, counted where m holds.
@@ -226,7 +256,7 @@ module _ (c : ℕ) where
   pub conserve : (p : ℕ) → p < 5 → (x : Packet) {r w : Router} {h : List NotedTick} → Run c r h w → sentOn p x h + withdrawnOn p x h + leftOn p x (w .place) ≡ acceptedOn (for-port p) x h + leftOn p x (r .place)
   unfolding sentOn withdrawnOn acceptedOn
   conserve p hp x (rest G) = omega arith
-  conserve p hp x (quiet ec ep R) = let a = conserve p hp x R in let e = ap (leftOn p x) ep in omega arith
+  conserve p hp x (quiet ec ep ef R) = let a = conserve p hp x R in let e = ap (leftOn p x) ep in omega arith
   conserve p hp x (ticks d t R) = let a = conserve p hp x R in let k = done-left t p hp x in omega arith
 
   module _ (m : Packet → Bool) (x : Packet) where
@@ -247,42 +277,51 @@ module _ (c : ℕ) where
         omega arith
 
     -- An accepted packet is accepted once, in its own tick: every other has another clock.
-    pub once : {r w : Router} {h : List NotedTick} → Run c r h w → Accepted h x → acceptedOn m x h ≡ counted (m x)
+    pub once : {r w : Router} {h : List NotedTick} (i : ℕ) → Run c r h w → Accepted h x i → acceptedOn m x h ≡ counted (m x)
     unfolding acceptedOn Accepted
-    once R (d, q, k, l, e, f, i) =
+    once i R (d, q, k, l, e, z) =
         let M = moment c R k in
         let t = d .met .clock in
+        let f = dated (M .tick) q x e .0 in
         let a = none-accepted (M .before) (λ g n. (moment c (M .past) n .tick, λ z. later-differs (g .met .clock) t (over c (M .past) n) (sym z ∙ f))) in
         let b = none-accepted (M .later) (λ g n. (moment c (M .future) n .tick, λ z. later-differs t (g .met .clock) (after-tick c d (M .future) n) (sym f ∙ z))) in
         let o = one-taken (M .tick) m x q l e in
         let s = ap (acceptedOn m x) (M .parts) ∙ accepted-append (M .before) (d ∷ M .later) in
         omega arith
 
-  -- Two accepted packets that are the same are equal: they came in one tick, at one port.
-  pub unique : {r w : Router} {h : List NotedTick} → Run c r h w → (x y : Packet) → Accepted h x → Accepted h y → samePacket x y ≡ true → x ≡ y
+  -- Two accepted packets that are the same are equal, and took one place: they came in one tick, at one port.
+  pub unique : {r w : Router} {h : List NotedTick} → Run c r h w → (x y : Packet) (i j : ℕ) → Accepted h x i → Accepted h y j → samePacket x y ≡ true → (x ≡ y) × (i ≡ j)
   unfolding Accepted
-  unique R x y (d, q, m, l, e, f, i) (d′, q′, m′, l′, e′, f′, i′) s =
+  unique R x y i j (d, q, m, l, e, z) (d′, q′, m′, l′, e′, z′) s =
       let (a, b) = same-keys x y s in
+      let (f, n) = dated (moment c R m .tick) q x e in
+      let (f′, n′) = dated (moment c R m′ .tick) q′ y e′ in
       let k : d ≡ d′ = same-tick c R m m′ (sym f ∙ a ∙ f′) in
-      let j : q ≡ q′ = sym i ∙ b ∙ i′ in
-      let z : accepted x ≡ accepted y = sym e ∙ ap₂ (λ (d : NotedTick) (q : ℕ). d .report .arrival q) k j ∙ e′ in
-      cc
+      let o : q ≡ q′ = sym n ∙ b ∙ n′ in
+      let v : accepted x ≡ accepted y = sym e ∙ ap₂ (λ (d : NotedTick) (q : ℕ). d .report .arrival q) k o ∙ e′ in
+      (same-packet v, z ∙ ap₂ (λ (d : NotedTick) (q : ℕ). getD (d .met .free) (storedBelow d q) 0) k o ∙ sym z′)
+    where
+      same-packet : {x y : Packet} → accepted x ≡ accepted y → x ≡ y
+      same-packet v = cc
 
   -- What is known of what is held at first, and of what the ticks accept, is known of what is held at the end.
-  held-known : {r w : Router} {h : List NotedTick} (K : Packet → Type 0) → Run c r h w → ((d : NotedTick) → List·Memᴰ d h → (x : Packet) → Taken d x → K x) → AllHeld (λ y. K (y .packet)) (r .place) → AllHeld (λ y. K (y .packet)) (w .place)
+  held-known : {r w : Router} {h : List NotedTick} (K : ℕ → Packet → Type 0) → Run c r h w → ((d : NotedTick) → List·Memᴰ d h → (x : Packet) (i : ℕ) → Taken d x i → K i x) → AllAt (λ i y. K i (y .packet)) (r .place) → AllAt (λ i y. K i (y .packet)) (w .place)
   held-known K (rest G) f a = a
-  held-known K (quiet ec ep R) f a = held-known K R f (subst (AllHeld (λ y. K (y .packet))) (sym ep) a)
+  held-known K (quiet ec ep ef R) f a = held-known K R f (subst (AllAt (λ i y. K i (y .packet))) (sym ep) a)
   held-known K (ticks d t R) f a = held-known K R (λ e m. f e (List·Memᴰ·tail m)) (ended-known t K (f d (List·Memᴰ·head refl)) a)
 
   -- ---- the accounts of a run from an empty router
 
   module _ {r w : Router} {h : List NotedTick} (R : Run c r h w) (empty : (i : ℕ) → r .place i ≡ none) where
-    now-accepted : (d : NotedTick) → List·Memᴰ d h → (x : Packet) → Taken d x → Accepted h x
+    abbrev Known : ℕ → Packet → Type 0
+    Known i x = Accepted h x i
+
+    now-accepted : (d : NotedTick) → List·Memᴰ d h → (x : Packet) (i : ℕ) → Taken d x i → Known i x
     unfolding Accepted
-    now-accepted d m x (q, l, e, f, i) = (d, q, m, l, e, f, i)
+    now-accepted d m x i (q, l, e, z) = (d, q, m, l, e, z)
 
     -- Nothing is held at first.
-    nothing-held : AllHeld (λ y. Accepted h (y .packet)) (r .place)
+    nothing-held : AllAt (λ i y. Known i (y .packet)) (r .place)
     nothing-held i l y e = none-some (sym (empty i) ∙ e)
 
     -- Nothing is left on any port at first.
@@ -290,57 +329,58 @@ module _ (c : ℕ) where
     unfolding leftOn isLeft toServe
     left-nothing p x = count-none (λ i. isLeft x (toServe (r .place i) p)) 256 (λ i l. ap (λ v. isLeft x (toServe v p)) (empty i))
 
-    -- What is held was accepted.
-    pub held-accepted : (i : ℕ) → i < 256 → (x : Held) → w .place i ≡ some x → Accepted h (x .packet)
-    held-accepted = held-known (Accepted h) R now-accepted nothing-held
+    -- What is held was accepted, and is in its place.
+    pub held-accepted : (i : ℕ) → i < 256 → (x : Held) → w .place i ≡ some x → Accepted h (x .packet) i
+    held-accepted = held-known Known R now-accepted nothing-held
 
     -- And so is what waits while a tick serves its ports.
-    pub toServe-accepted : (d : NotedTick) → List·Memᴰ d h → (q : ℕ) → q ≤ 5 → (i p : ℕ) (x : Packet) → i < 256 → toServe (serving c (d .met) (d .call) q .place i) p ≡ some x → Accepted h x
+    pub toServe-accepted : (d : NotedTick) → List·Memᴰ d h → (q : ℕ) → q ≤ 5 → (i p : ℕ) (x : Packet) → i < 256 → toServe (serving c (d .met) (d .call) q .place i) p ≡ some x → Accepted h x i
     toServe-accepted d m =
         let M = moment c R m in
-        let a = held-known (Accepted h) (M .past) (λ e n. now-accepted e (subst (List·Memᴰ e) (sym (M .parts)) (Memᴰ·append-left (d ∷ M .later) n))) nothing-held in
-        toServe-known (M .tick) (Accepted h) (now-accepted d m) a
+        let a = held-known Known (M .past) (λ e n. now-accepted e (subst (List·Memᴰ e) (sym (M .parts)) (Memᴰ·append-left (d ∷ M .later) n))) nothing-held in
+        toServe-known (M .tick) Known (now-accepted d m) a
 
     -- What is left is x itself, and x fits the clock.
-    pub in-time : (x : Packet) → Accepted h x → (p : ℕ) → 0 < leftOn p x (w .place) → w .clock ≤ℤ x .deadline
+    pub in-time : (x : Packet) (j : ℕ) → Accepted h x j → (p : ℕ) → 0 < leftOn p x (w .place) → w .clock ≤ℤ x .deadline
     unfolding leftOn
-    in-time x a p n =
+    in-time x j a p n =
         let (i, l, e) = count-some (λ i. isLeft x (toServe (w .place i) p)) 256 n in
         let (y, ey, s) = left-x x (toServe (w .place i) p) e in
         let (k, ev, ex, t) = toServe-held (w .place i) p y ey in
-        let q : k .packet ≡ x = ex ∙ sym (unique R x y a (subst (Accepted h) ex (held-accepted i l k ev)) s) in
+        let q : k .packet ≡ x = ex ∙ sym (unique R x y j i a (subst (Known i) ex (held-accepted i l k ev)) s .0) in
         record { le = subst (λ (z : Packet). T (leZ (w .clock) (z .deadline))) q (run-good R .window i l k ev .window .due) }
 
     -- What is sent or withdrawn was accepted.
-    pub genuine : (d : NotedTick) → List·Memᴰ d h → (p : ℕ) → p < 5 → (x : Packet) → Genuine h d p x
+    pub genuine : (d : NotedTick) → List·Memᴰ d h → (p : ℕ) → p < 5 → (x : Packet) → Genuine c h d p x
     genuine d m p hp x =
         let t = moment c R m .tick in
         record {
           on-time = λ i e. let (l, v, b) = rests t p (onTime (i, x)) e in toServe-accepted d m p (omega arith) i p x l v;
           early = λ i e. let (l, v, b, n) = rests t p (early (i, x)) e in toServe-accepted d m p (omega arith) i p x l v;
-          withdrawn = λ k. let (i, l, v, b) = withdrawn-at t p x k in toServe-accepted d m 5 (omega arith) i p x l v;
+          withdrawn = λ k. let (i, l, v, b) = withdrawn-at t p x k in (i, toServe-accepted d m 5 (omega arith) i p x l v);
         }
 
     -- What is the same as an accepted packet, and is sent or withdrawn, is that packet.
-    pub permitted : (x : Packet) → Accepted h x → (p : ℕ) → p < 5 → (d : NotedTick) → List·Memᴰ d h → Permitted c d p x
+    pub permitted : (x : Packet) (j : ℕ) → Accepted h x j → (p : ℕ) → p < 5 → (d : NotedTick) → List·Memᴰ d h → Permitted c d p x
     unfolding isSent
-    permitted x a p hp d m = record {
+    permitted x j a p hp d m = record {
       sent = λ s. go (d .report .grant p) refl s;
-      on-time = λ i y e s. record { le = subst (λ (y : Packet). T (leZ (y .time) (d .met .clock))) (is-x y s (genuine d m p hp y .on-time i e)) (rests t p (onTime (i, y)) e .2) };
-      early = λ i y e s. record { lt = subst (λ (y : Packet). T (ltZ (d .met .clock) (y .time))) (is-x y s (genuine d m p hp y .early i e)) (rests t p (early (i, y)) e .2) };
+      on-time = λ i y e s. record { le = subst (λ (y : Packet). T (leZ (y .time) (d .met .clock))) (is-x y i s (genuine d m p hp y .on-time i e)) (rests t p (onTime (i, y)) e .2) };
+      early = λ i y e s. record { lt = subst (λ (y : Packet). T (ltZ (d .met .clock) (y .time))) (is-x y i s (genuine d m p hp y .early i e)) (rests t p (early (i, y)) e .2) };
       withdrawn = λ n.
           let (y, k, s) = times-some x (d .report .withdrawn p) n in
-          subst (λ (y : Packet). (y .arrived ≤ℤ d .met .clock) × (d .met .clock ≡ y .deadline)) (is-x y s (genuine d m p hp y .withdrawn k)) (withdrawn-due t p y k);
+          let (i, b) = genuine d m p hp y .withdrawn k in
+          subst (λ (y : Packet). (y .arrived ≤ℤ d .met .clock) × (d .met .clock ≡ y .deadline)) (is-x y i s b) (withdrawn-due t p y k);
     }
       where
         t : Ticking c d
         t = moment c R m .tick
 
-        is-x : (y : Packet) → samePacket x y ≡ true → Accepted h y → y ≡ x
-        is-x y s b = sym (unique R x y a b s)
+        is-x : (y : Packet) (i : ℕ) → samePacket x y ≡ true → Accepted h y i → y ≡ x
+        is-x y i s b = sym (unique R x y j i a b s .0)
 
         go : (g : Grant (ℕ × Packet)) → d .report .grant p ≡ g → isSent x g ≡ true → Sent d p x
         go nobody e s = absurd (true≢false (sym s))
         go bestEffort e s = absurd (true≢false (sym s))
-        go (onTime (i, y)) e s = subst (Sent d p) (is-x y s (genuine d m p hp y .on-time i e)) (sent-on-time t p hp i y e)
-        go (early (i, y)) e s = subst (Sent d p) (is-x y s (genuine d m p hp y .early i e)) (sent-early t p hp i y e)
+        go (onTime (i, y)) e s = subst (Sent d p) (is-x y i s (genuine d m p hp y .on-time i e)) (sent-on-time t p hp i y e)
+        go (early (i, y)) e s = subst (Sent d p) (is-x y i s (genuine d m p hp y .early i e)) (sent-early t p hp i y e)

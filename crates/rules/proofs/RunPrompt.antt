@@ -1,30 +1,34 @@
 -- The rest of the accounts: what waits by the accounts stands in a place, and there the grant is the least; so no port idles and no arrival is refused without its reason. Assumes nothing.
-use Prim.Native.Nat.{ℕ, zero, suc, _+_, _<_, _≤_}
-use mathlib.Core.Path.{_≡_, refl, sym, ap, subst, _∙_}
+use Prim.Native.Nat.{ℕ, zero, suc, _+_, _-_, _*_, _/_, _%_, _<_, _≤_}
+use mathlib.Core.Path.{_≡_, refl, sym, ap, ap₂, subst, _∙_}
 use mathlib.Core.Bool.{Bool, true, false, cond, not, _&&_}
 use mathlib.Core.List.{List, [], _∷_, _++_, List·Memᴰ, List·Memᴰ·head, List·Memᴰ·tail, Memᴰ·append-left, Memᴰ·append-right}
 use mathlib.Core.Option.{none, some}
 use native.Mathlib.Decide.{ℕ-discrete}
 use native.Mathlib.Omega.{arith}
-use lib.ListN.{length}
+use lib.ListN.{length, getD}
 use lib.Dec.{T, eqb, eqb→eq}
-use lib.IntN.{ℤ, sucℤ, pos, _+ℤ_}
+use lib.IntN.{ℤ, sucℤ, pos, _+ℤ_, _-ℤ_}
 use lib.Signed.{leZ, ltZ, _≤ℤ_}
 use borrow.Author.Tests.{ne-eqb, eq-eqb}
-use Rattle.rules.specs.Account.{NotedTick, samePacket, isSent, times, isLeft, leftOn, sentOn, withdrawnOn, Accepted, Unserved, NoneOnTime, NoLater, Prompt, answerDue, stored, Stored, Accounts}
-use Rattle.rules.specs.Areas.{byte, packet, has, bestEffort, onTime, early, asked, arrivalQuestions, arrivalAnswer}
-use Rattle.rules.specs.Order.{count, counted}
-use Rattle.rules.specs.Whole.{Packet, Held, Router, TickCall, Arrival, toServe, meets, arrivalRefusal, arrived, ticked, Report, arrivalCode}
+use Rattle.rules.specs.Account.{NotedTick, samePacket, isSent, times, isLeft, leftOn, sentOn, withdrawnOn, storedBelow, Accepted, Unserved, NoneOnTime, NoLater, Prompt, entryMet, answerDue, Made, Taken, Told, stored, Stored, GivenBack, freeBefore, Accounts}
+use Rattle.rules.specs.Given.{lastEntry}
+use Rattle.rules.specs.Areas.{byte, packet, has, grantCode, bestEffort, onTime, early, asked, arrivalQuestions, arrivalAnswer}
+use Rattle.rules.specs.Order.{count, counted, topFirst}
+use Rattle.rules.specs.Whole.{Packet, Entry, Router, TickCall, toServe, meets, arrivalRefusal, arrived, ticked, arrivalCode, answerBytes, grantBytes}
 use Rattle.rules.proofs.Booleans.{true→T, same-test}
-use Rattle.rules.proofs.IndexLaws.{count-none, count-some, count-same, count-two, count-pos, counted-true, counted-false}
+use Rattle.rules.proofs.IndexLaws.{count-none, count-some, count-same, count-pos, counted-true, counted-false}
 use Rattle.rules.proofs.Integers.{orders, suc-nat, not-le}
 use Rattle.rules.proofs.Masks.{some-port}
-use Rattle.rules.proofs.WholeLaws.{tally, arrival-code, arrival-free}
+use Rattle.rules.proofs.FieldBytes.{packet-byte}
+use Rattle.rules.proofs.ByteLaws.{packet-at, zeros-at, payload-byte, answer-at, topFirst-at}
+use Rattle.rules.proofs.StateLaws.{length-topFirst}
+use Rattle.rules.proofs.WholeLaws.{arrival-code, arrival-taken, arrival-free, emptied-free}
 use Rattle.rules.proofs.Grants.{grant-on-time, grant-best-effort, grant-waits, grant-early}
-use Rattle.rules.proofs.Good.{after, arrivals-frame, chosen}
-use Rattle.rules.proofs.Accounting.{taken, for-port, any, holds, tick-in, arrivals-left, served-left}
-use Rattle.rules.proofs.Runs.{next, next-good, Ticking, Run, rest, quiet, ticks, split, moment, over}
-use Rattle.rules.proofs.RunAccounts.{same-self, left-x, router-at, arrival-reported, grant-reported, window-at, run-good, acceptedOn, accepted-append, conserve, once, unique, held-accepted, toServe-accepted, left-nothing, in-time, genuine, permitted}
+use Rattle.rules.proofs.Good.{after, arrivals-frame, accepted-passed, serving, serving-by, chosen}
+use Rattle.rules.proofs.Accounting.{taken, for-port, arrivals-left, served-left}
+use Rattle.rules.proofs.Runs.{next, next-good, Ticking, Run, rest, quiet, ticks, run-ticks, split, moment, over}
+use Rattle.rules.proofs.RunAccounts.{same-self, left-x, router-at, arrival-reported, grant-reported, stored-below, free-taken, window-at, size-at, rests, run-good, acceptedOn, accepted-append, conserve, once, unique, held-accepted, toServe-accepted, left-nothing, in-time, genuine, permitted}
 
 -- ---- the free places of a tick
 
@@ -44,10 +48,23 @@ module _ (c : ℕ) where
   full-same : (a b : ℕ) → (a ≡ 0 → b ≡ 256) → (b ≡ 256 → a ≡ 0) → eqb a 0 ≡ eqb b 256
   full-same a b f g = same-test (eqb a 0) (eqb b 256) (λ t. true→T (eqb b 256) (eq-eqb b 256 (f (eqb→eq a 0 t)))) (λ t. true→T (eqb a 0) (eq-eqb a 0 (g (eqb→eq b 256 t))))
 
+  in-numbers : (a b f : Bool) → arrivalAnswer (asked (arrivalQuestions (not a) b (not f))) ≡ cond a 6 (cond b (cond f 8 1) 7)
+  unfolding arrivalAnswer asked
+  in-numbers true b f = refl
+  in-numbers false false f = refl
+  in-numbers false true true = refl
+  in-numbers false true false = refl
+
+  -- The entry that an arrival meets is the one last committed.
+  entry-met : {d : NotedTick} → Ticking c d → (p : ℕ) → d .met .entry (byte (packet (d .call .arrivals) p) 0) ≡ entryMet c d p
+  entry-met {d} t p =
+      let k : byte (packet (d .call .arrivals) p) 0 ≡ byte (d .call .arrivals) (20 * p) = packet-byte (d .call .arrivals) p 0 (omega arith) ∙ ap (byte (d .call .arrivals)) (omega arith) in
+      t .settings .entry (byte (packet (d .call .arrivals) p) 0) ∙ ap (λ (i : ℕ). lastEntry c i (d .past)) k
+
   -- By the settings, which the tick does not change, and the free places, which make 256 with the stored packets.
-  answers-due : {d : NotedTick} → Ticking c d → (p : ℕ) → arrivalCode (d .report .arrival p) ≡ answerDue d p
+  answers-due : {d : NotedTick} → Ticking c d → (p : ℕ) → p < 5 → arrivalCode (d .report .arrival p) ≡ answerDue c d p
   unfolding answerDue arrivalRefusal
-  answers-due {d} t p =
+  answers-due {d} t p hp =
       let w = d .met in
       let call = d .call in
       let k = packet (call .arrivals) p in
@@ -55,20 +72,79 @@ module _ (c : ℕ) where
       let f = arrivals-frame c w call p in
       let free = arrivals-free c w call p in
       let kept = t .good .kept .all in
-      let n = count-same (λ q. eqb (arrivalCode (d .report .arrival q)) 1) (λ q. eqb (arrivalCode (meets c call (after c w call q) q)) 1) p (λ q l. ap (λ (a : Arrival). eqb (arrivalCode a) 1) (arrival-reported c t q)) in
+      let n = stored-below c t p (omega arith) in
       let answer : ℕ → ℕ = λ q. cond (has (call .arriving) p) (arrivalAnswer q) 0 in
+      let due : Entry → Bool → ℕ = λ e b. cond (has (call .arriving) p) (cond (eqb (e .mask) 0) 6 (cond (leZ (w .clock) (call .times p +ℤ pos (e .delay))) (cond b 8 1) 7)) 0 in
       let e = w .entry (byte k 0) in
       ap arrivalCode (arrival-reported c t p) ∙ arrival-code c r (call .arriving) p k (call .times p)
       ∙ ap (λ (v : Router). answer (arrivalRefusal c v k (call .times p))) f
-      ∙ ap (λ (b : Bool). answer (asked (arrivalQuestions (not (eqb (e .mask) 0)) (leZ (w .clock) (call .times p +ℤ pos (e .delay))) (not b))))
-      (full-same (length (r .free)) (stored (w .place) + count p (λ q. eqb (arrivalCode (d .report .arrival q)) 1)) (omega arith) (omega arith))
+      ∙ ap (λ (a : ℕ). cond (has (call .arriving) p) a 0) (in-numbers (eqb (e .mask) 0) (leZ (w .clock) (call .times p +ℤ pos (e .delay))) (eqb (length (r .free)) 0))
+      ∙ ap₂ due (entry-met t p) (full-same (length (r .free)) (stored (w .place) + storedBelow d p) (omega arith) (omega arith))
+
+  -- Where 1 is due the packet is accepted; and what is accepted is made at the settings of the tick.
+  packet-taken : {d : NotedTick} → Ticking c d → (p : ℕ) → p < 5 → Taken c d p
+  unfolding arrivalCode
+  packet-taken {d} t p hp =
+      let w = d .met in
+      let call = d .call in
+      let k = packet (call .arrivals) p in
+      let met = entry-met t p in
+      record {
+        due = λ e. let (x, a) = arrival-taken c (after c w call p) (call .arriving) p k (call .times p) (ap arrivalCode (sym (arrival-reported c t p)) ∙ answers-due t p hp ∙ e) in (x, arrival-reported c t p ∙ a);
+        only = λ x e. (
+          sym (answers-due t p hp) ∙ ap arrivalCode e,
+          subst (Made c d p) (accepted-passed c w call p x (sym (arrival-reported c t p) ∙ e) .packet) (record {
+            arrived = refl;
+            input = refl;
+            time = refl;
+            deadline = ap (λ (e : Entry). call .times p +ℤ pos (e .delay)) met;
+            identifier = ap (λ (e : Entry). e .identifier) met;
+            mask = ap (λ (e : Entry). e .mask) met;
+            payload = λ j l. payload-byte c (call .arrivals) p j l;
+          }),
+        );
+      }
+
+  -- Answers and outgoing are those of the report.
+  told : 0 < c → c < 20 → {d : NotedTick} → Ticking c d → (p : ℕ) → p < 5 → Told c d p
+  unfolding answerBytes grantCode grantBytes
+  told hc lc {d} t p l =
+      let r = d .report in
+      let (a, b, e, f) = subst (λ (x : List ℕ). (byte x p ≡ grantCode (r .grant p)) × (byte x (5 + p) ≡ arrivalCode (r .arrival p)) × (byte x (10 + 2 * p) ≡ length (r .withdrawn p) / 256) × (byte x (11 + 2 * p) ≡ length (r .withdrawn p) % 256)) (sym (t .answers)) (answer-at (λ p. grantCode (r .grant p)) (λ p. arrivalCode (r .arrival p)) (λ p. length (r .withdrawn p)) p l) in
+      record {
+        arrival = b ∙ answers-due t p l;
+        nobody = λ k. (a ∙ ap grantCode k, zeros-at (d .outgoing) p (t .sends p l ∙ ap (grantBytes c) k));
+        on-time = λ i x k. let (h, v, g) = rests c t p (onTime (i, x)) k in (a ∙ ap grantCode k, packet-at c (d .outgoing) p x hc lc (size-at c t p p (omega arith) i x h v) (t .sends p l ∙ ap (grantBytes c) k));
+        best-effort = λ k. (a ∙ ap grantCode k, zeros-at (d .outgoing) p (t .sends p l ∙ ap (grantBytes c) k));
+        early = λ i x k. let (h, v, g, n) = rests c t p (early (i, x)) k in (a ∙ ap grantCode k, packet-at c (d .outgoing) p x hc lc (size-at c t p p (omega arith) i x h v) (t .sends p l ∙ ap (grantBytes c) k));
+        withdrawn = (e, f);
+      }
+
+  -- ---- the free list
+
+  -- Serving takes no place, and emptied places go to the front.
+  gave-back : {d : NotedTick} → Ticking c d → GivenBack d (next c d .free)
+  unfolding ticked
+  gave-back {d} t =
+      let w = d .met in
+      let s = serving c w (d .call) 5 in
+      let (l, f, m, e) = emptied-free (s .clock) 256 s in
+      let k : s .free ≡ after c w (d .call) 5 .free = serving-by c w (d .call) (λ r. r .free ≡ after c w (d .call) 5 .free) refl 5 (λ p m r q i h. q) in
+      record { emptied = l; falling = f; list = e ∙ ap (λ (x : List ℕ). l ++ x) (k ∙ free-taken c t 5 (omega arith)) }
+
+  -- A run meets the free list that it begins with.
+  run-free : {r w : Router} {h : List NotedTick} → Run c r h w → freeBefore h w ≡ r .free
+  unfolding freeBefore
+  run-free (rest G) = refl
+  run-free (quiet ec ep ef R) = run-free R ∙ ef
+  run-free (ticks d t R) = refl
 
   -- ---- a run with one more tick
 
   -- By induction over the run.
   snoc : {r m : Router} {h : List NotedTick} → Run c r h m → (d : NotedTick) → Ticking c d → d .met ≡ m → Run c r (h ++ (d ∷ [])) (next c d)
   snoc (rest {r = r} G) d t e = subst (λ (r : Router). Run c r (d ∷ []) (next c d)) e (ticks d t (rest (next-good c t)))
-  snoc (quiet ec ep R) d t e = quiet ec ep (snoc R d t e)
+  snoc (quiet ec ep ef R) d t e = quiet ec ep ef (snoc R d t e)
   snoc (ticks d₀ t₀ R) d t e = ticks d₀ t₀ (snoc R d t e)
 
   -- By induction over the ticks.
@@ -77,45 +153,11 @@ module _ (c : ℕ) where
   withdrawn-none p x [] f = refl
   withdrawn-none p x (d ∷ h) f = let a = f d (List·Memᴰ·head refl) in let b = withdrawn-none p x h (λ e m. f e (List·Memᴰ·tail m)) in omega arith
 
-  -- ---- each stored packet has its place to itself
-
-  -- By induction over the run: a tick adds only what it accepts.
-  run-in : {r w : Router} {h : List NotedTick} (x : Packet) → Run c r h w → tally (holds x) (w .place) ≤ tally (holds x) (r .place) + acceptedOn c any x h
-  unfolding acceptedOn ticked
-  run-in x (rest G) = omega arith
-  run-in x (quiet ec ep R) = let a = run-in x R in let e = ap (tally (holds x)) ep in omega arith
-  run-in x (ticks d t R) =
-      let a = run-in x R in
-      let k = tick-in c (d .met) (d .call) (t .good) (t .input) x in
-      let e = ap (λ (k : Report). count 5 (λ q. taken any x (k .arrival q))) (t .report) in
-      omega arith
-
   module _ {r w : Router} {h : List NotedTick} (R : Run c r h w) (empty : (i : ℕ) → r .place i ≡ none) where
-    held-nothing : (x : Packet) → tally (holds x) (r .place) ≡ 0
-    unfolding tally holds
-    held-nothing x = count-none (λ i. holds x (r .place i)) 256 (λ i l. ap (holds x) (empty i))
-
-    -- Two places would count two, and x was accepted once.
-    own : (i j : ℕ) → i < 256 → j < 256 → (x y : Held) → w .place i ≡ some x → w .place j ≡ some y → samePacket (x .packet) (y .packet) ≡ true → i ≡ j
-    unfolding tally holds
-    own i j hi hj x y ex ey s = go (ℕ-discrete i j)
-      where
-        go : Dec (i ≡ j) → i ≡ j
-        go (yes e) = e
-        go (no n) =
-            let z = x .packet in
-            let a = run-in z R in
-            let b = held-nothing z in
-            let o = once c any z R (held-accepted c R empty i hi x ex) in
-            let k = counted-true in
-            let two = count-two (λ k. holds z (w .place k)) 256 i j hi hj n (ap (holds z) ex ∙ same-self z) (ap (holds z) ey ∙ s) in
-            absurd (omega arith)
-
     kept-stored : Stored h (w .place)
     kept-stored = record {
       accepted = held-accepted c R empty;
       some-port = λ i l x e. some-port (x .left) (run-good c R .busy i l x e) (run-good c R .window i l x e .left);
-      own = own;
     }
 
     -- ---- what waits for a port when a tick serves it
@@ -134,12 +176,12 @@ module _ (c : ℕ) where
       last = Memᴰ·append-right before (List·Memᴰ·head refl)
 
       -- Sent, withdrawn and left by then are what was accepted.
-      balance : (x : Packet) → Accepted upto x → sentOn p x before + withdrawnOn p x before + leftOn p x (here .place) ≡ counted (has (x .mask) p)
+      balance : (x : Packet) (i : ℕ) → Accepted upto x i → sentOn p x before + withdrawnOn p x before + leftOn p x (here .place) ≡ counted (has (x .mask) p)
       unfolding acceptedOn
-      balance x a =
+      balance x i a =
           let v = conserve c p hp x S in
           let z = left-nothing c S empty p x in
-          let o = once c (for-port p) x R′ a in
+          let o = once c (for-port p) x i R′ a in
           let s = accepted-append c (for-port p) x before (d ∷ []) in
           let q = count-same (λ q. taken (for-port p) x (d .report .arrival q)) (λ q. taken (for-port p) x (meets c (d .call) (after c (d .met) (d .call) q) q)) 5 (λ q l. ap (taken (for-port p) x) (arrival-reported c t q)) in
           let al = arrivals-left c (d .met) (d .call) (t .good) (t .input) p hp x 5 in
@@ -148,35 +190,36 @@ module _ (c : ℕ) where
           omega arith
 
       -- A packet is not withdrawn before its deadline.
-      not-withdrawn : (x : Packet) → Accepted upto x → d .met .clock ≤ℤ x .deadline → withdrawnOn p x before ≡ 0
-      not-withdrawn x a alive = withdrawn-none p x before (λ e k. go e k (times x (e .report .withdrawn p)) refl)
+      not-withdrawn : (x : Packet) (i : ℕ) → Accepted upto x i → d .met .clock ≤ℤ x .deadline → withdrawnOn p x before ≡ 0
+      not-withdrawn x i a alive = withdrawn-none p x before (λ e k. go e k (times x (e .report .withdrawn p)) refl)
         where
           go : (e : NotedTick) → List·Memᴰ e before → (n : ℕ) → times x (e .report .withdrawn p) ≡ n → n ≡ 0
           go e k zero q = refl
           go e k (suc n) q =
-              let s : e .met .clock ≡ x .deadline = permitted c R′ empty x a p hp e (Memᴰ·append-left (d ∷ []) k) .withdrawn (omega arith) .1 in
+              let s : e .met .clock ≡ x .deadline = permitted c R′ empty x i a p hp e (Memᴰ·append-left (d ∷ []) k) .withdrawn (omega arith) .1 in
               let o : T (leZ (sucℤ (x .deadline)) (d .met .clock)) = subst (λ (y : ℤ). T (leZ (sucℤ y) (d .met .clock))) s (over c S k) in
               let l = alive .le in
               absurd (omega (arith, orders, suc-nat (x .deadline)))
 
-      -- What waits by the accounts waits at a place.
-      waits-at : (x : Packet) → Unserved before d p x → (i : ℕ) × (i < 256) × (toServe (here .place i) p ≡ some x)
+      -- What waits by the accounts waits at its place.
+      waits-at : (x : Packet) (j : ℕ) → Unserved c before d p x j → (j < 256) × (toServe (here .place j) p ≡ some x)
       unfolding leftOn
-      waits-at x W =
-          let b = balance x (W .accepted) in
+      waits-at x j W =
+          let b = balance x j (W .accepted) in
           let u = W .unsent in
-          let w′ = not-withdrawn x (W .accepted) (W .in-time) in
+          let w′ = not-withdrawn x j (W .accepted) (W .in-time) in
           let k : counted (has (x .mask) p) ≡ 1 = ap counted (W .port) ∙ counted-true in
           let (i, l, e) = count-some (λ i. isLeft x (toServe (here .place i) p)) 256 (omega arith) in
           let (y, ey, s) = left-x x (toServe (here .place i) p) e in
-          (i, l, ey ∙ ap some (sym (unique c R′ x y (W .accepted) (toServe-accepted c R′ empty d last p (omega arith) i p y l ey) s)))
+          let (q, z) = unique c R′ x y j i (W .accepted) (toServe-accepted c R′ empty d last p (omega arith) i p y l ey) s in
+          subst (λ (j : ℕ). (j < 256) × (toServe (here .place j) p ≡ some x)) (sym z) (l, ey ∙ ap some (sym q))
 
       -- And the other way round.
-      at-waits : (i : ℕ) (x : Packet) → i < 256 → toServe (here .place i) p ≡ some x → Unserved before d p x
+      at-waits : (i : ℕ) (x : Packet) → i < 256 → toServe (here .place i) p ≡ some x → Unserved c before d p x i
       unfolding leftOn isLeft
       at-waits i x l e =
           let a = toServe-accepted c R′ empty d last p (omega arith) i p x l e in
-          let b = balance x a in
+          let b = balance x i a in
           let k = count-pos (λ i. isLeft x (toServe (here .place i) p)) 256 i l (ap (isLeft x) e ∙ same-self x) in
           let (port, unsent) = once-left (has (x .mask) p) refl b k in
           record { accepted = a; port = port; unsent = unsent; in-time = record { le = window-at c t p p (omega arith) i x l e .1 } }
@@ -186,13 +229,13 @@ module _ (c : ℕ) where
           once-left false q b k = let z = counted-false in absurd (omega arith)
 
       -- What waits at a place waits by the accounts.
-      none-ready : NoneOnTime before d p → (i : ℕ) (x : Packet) → i < 256 → toServe (here .place i) p ≡ some x → T (ltZ (d .met .clock) (x .time))
-      none-ready N i x l e = N x (at-waits i x l e) .lt
+      none-ready : NoneOnTime c before d p → (i : ℕ) (x : Packet) → i < 256 → toServe (here .place i) p ≡ some x → T (ltZ (d .met .clock) (x .time))
+      none-ready N i x l e = N x i (at-waits i x l e) .lt
 
       -- What waits is at a place, and the grant is the least there.
-      on-time : (x : Packet) → Unserved before d p x → x .time ≤ℤ d .met .clock → (i : ℕ) × (y : Packet) × (d .report .grant p ≡ onTime (i, y)) × NoLater (y .deadline, y .time) (x .deadline, x .time)
-      on-time x W ready =
-          let (i, l, e) = waits-at x W in
+      on-time : (x : Packet) (i : ℕ) → Unserved c before d p x i → x .time ≤ℤ d .met .clock → (j : ℕ) × (y : Packet) × (d .report .grant p ≡ onTime (j, y)) × NoLater (y .deadline, y .time, j) (x .deadline, x .time, i)
+      on-time x i W ready =
+          let (l, e) = waits-at x i W in
           let (j, y, g, le) = grant-on-time here (d .call .bestEffort) p i x l e (ready .le) in
           (j, y, grant-reported c t p ∙ g, le)
 
@@ -200,33 +243,40 @@ module _ (c : ℕ) where
       clash e q = let z : _≡_ {A = ℕ} 0 1 = cc in absurd (omega arith)
 
       -- Best-effort is granted only where nothing is on time: else the grant would be on time.
-      prompt : Prompt before d p
+      prompt : Prompt c before d p
       prompt = record {
         on-time = on-time;
-        best-effort = λ e. (grant-best-effort here (d .call .bestEffort) p (sym (grant-reported c t p) ∙ e), λ x W. record { lt = later x W e (leZ (x .time) (d .met .clock)) refl });
+        best-effort = λ e. (grant-best-effort here (d .call .bestEffort) p (sym (grant-reported c t p) ∙ e), λ x i W. record { lt = later x i W e (leZ (x .time) (d .met .clock)) refl });
         best-effort-if = λ b N. grant-reported c t p ∙ grant-waits here (d .call .bestEffort) p (none-ready N) b;
-        early = λ b N x W near.
-            let (i, l, e) = waits-at x W in
-            let (j, y, g, le) = grant-early here (d .call .bestEffort) p (none-ready N) b i x l e (near .le) in
+        early = λ b N x i W near.
+            let (l, e) = waits-at x i W in
+            let (j, y, g, le) = grant-early here (d .call .bestEffort) p (none-ready N) b i x l e (subst (λ (n : ℕ). T (leZ (x .time -ℤ d .met .clock) (pos n))) (sym (t .settings .horizon p)) (near .le)) in
             (j, y, grant-reported c t p ∙ g, le);
       }
         where
-          later : (x : Packet) → Unserved before d p x → d .report .grant p ≡ bestEffort → (v : Bool) → leZ (x .time) (d .met .clock) ≡ v → T (ltZ (d .met .clock) (x .time))
-          later x W e true q = let (j, y, g, le) = on-time x W (record { le = true→T (leZ (x .time) (d .met .clock)) q }) in clash e g
-          later x W e false q = not-le (x .time) (d .met .clock) q
+          later : (x : Packet) (i : ℕ) → Unserved c before d p x i → d .report .grant p ≡ bestEffort → (v : Bool) → leZ (x .time) (d .met .clock) ≡ v → T (ltZ (d .met .clock) (x .time))
+          later x i W e true q = let (j, y, g, le) = on-time x i W (record { le = true→T (leZ (x .time) (d .met .clock)) q }) in clash e g
+          later x i W e false q = not-le (x .time) (d .met .clock) q
 
-    -- All of it.
-    pub accounts : Accounts c h w
-    accounts = record {
-      account = λ x a p hp. record {
-        once = let v = conserve c p hp x R in let o = once c (for-port p) x R a in let z = left-nothing c R empty p x in omega arith;
-        permitted = λ d m. permitted c R empty x a p hp d m;
-        in-time = in-time c R empty x a p;
-      };
-      unique = unique c R;
-      genuine = genuine c R empty;
-      prompt = λ before later d e p hp. let (t, S, U) = split c R before later d e in prompt before d t S p hp;
-      arrivals = λ d m p hp. answers-due (moment c R m .tick) p;
-      stored = kept-stored;
-      kept = run-good c R .kept;
-    }
+    -- All of it, from a router whose places are free, the lowest first.
+    pub accounts : 0 < c → c < 20 → r .free ≡ topFirst (λ i. 255 - i) 256 → Accounts c (r .clock) h w
+    accounts hc lc free =
+        let f = run-free R ∙ free in
+        record {
+          account = λ x i a p hp. record {
+            once = let v = conserve c p hp x R in let o = once c (for-port p) x i R a in let z = left-nothing c R empty p x in omega arith;
+            permitted = λ d m. permitted c R empty x i a p hp d m;
+            in-time = in-time c R empty x i a p;
+          };
+          unique = unique c R;
+          genuine = genuine c R empty;
+          prompt = λ before later d e p hp. let (t, S, U) = split c R before later d e in prompt before d t S p hp;
+          taken = λ d m p hp. packet-taken (moment c R m .tick) p hp;
+          told = λ d m. told hc lc (moment c R m .tick);
+          clocks = λ before later d e. run-ticks c (split c R before later d e .1);
+          clock = run-ticks c R;
+          stored = kept-stored;
+          kept = run-good c R .kept;
+          first-free = (ap length f ∙ length-topFirst (λ i. 255 - i) 256, λ i l. ap (λ (l : List ℕ). getD l i 0) f ∙ topFirst-at (λ i. 255 - i) 256 i l ∙ omega arith);
+          given-back = λ before later d e. let (t, S, U) = split c R before later d e in subst (GivenBack d) (sym (run-free U)) (gave-back t);
+        }

@@ -8,15 +8,18 @@ use native.Mathlib.Omega.{arith}
 use lib.ListN.{length, drop}
 use lib.Seq.{getD-take, getD-drop}
 use lib.Dec.{T, eqb}
-use lib.IntN.{ℤ, sucℤ}
+use lib.IntN.{ℤ, pos, sucℤ, _+ℤ_, +ℤ-sucℤ, sucℤ-+ℤ, +ℤ-idr}
 use lib.Signed.{leZ}
-use borrow.Author.Tests.{eqb-true, leb-true, ltb-true}
+use borrow.Author.Tests.{eq-eqb, eqb-true, leb-true, ltb-true}
 use Rattle.rules.specs.Account.{NotedTick}
 use Rattle.rules.specs.Areas.{Bytes, half, packet, has, fits, areasFull, tickQuestions}
-use Rattle.rules.specs.Calls.{tick, refusal, ByteCall, TrueTimes}
-use Rattle.rules.specs.Whole.{Router, TickCall, put, written, ticked, grantBytes}
+use Rattle.rules.specs.Calls.{tick, refusal}
+use Rattle.rules.specs.Given.{numberDue, AsWritten, isTick, ByteCall, TrueTimes}
+use Rattle.rules.specs.Whole.{Router, TickCall, put, written, ticked, grantBytes, answerBytes}
 use Rattle.rules.proofs.Booleans.{asked-passed, and-left, cons-first, cons-rest, nil-cons}
 use Rattle.rules.proofs.Integers.{orders, suc-nat, later-differs}
+use Rattle.rules.proofs.ByteLaws.{stamp-number}
+use Rattle.rules.proofs.GivenLaws.{number-due}
 use Rattle.rules.proofs.Good.{Good, EntryInRange, SettingsInRange, Input, ended-frame, tick-good}
 
 -- ---- a control write keeps the router good
@@ -54,16 +57,17 @@ whole-area c w k out ans e =
     eqb-true (length (k .arrivals)) 100 (and-left a b (and-left (a && b) d (asked-passed (a && b && d) 0 (tickQuestions (k .arriving) (k .bestEffort)) e .0)))
 
 -- From what is asked of the calls.
-pub input-of : (c : ℕ) (w : Router) (k : TickCall) (out ans : List ℕ) → ByteCall c (tick k out ans) → TrueTimes c w (tick k out ans) → refusal c w (tick k out ans) ≡ 0 → Input c (w .clock) k
-unfolding ByteCall TrueTimes Bytes packet
-input-of c w k out ans (ha, hb, bytes, ho, hn) true-times e =
+pub input-of : (c : ℕ) → c < 20 → (w : Router) (k : TickCall) (out ans : List ℕ) → ByteCall c (tick k out ans) → TrueTimes c (w .clock) (tick k out ans) → refusal c w (tick k out ans) ≡ 0 → Input c (w .clock) k
+unfolding ByteCall TrueTimes isTick Bytes packet
+input-of c few w k out ans (ha, hb, bytes, ho, hn) times e =
     let whole = whole-area c w k out ans e in
+    let true-time = times (eq-eqb (numberDue c (tick k out ans)) 0 (sym (number-due c w (tick k out ans)) ∙ e)) in
     record {
       whole = whole;
       identifier = λ p l. subst (λ (n : ℕ). n < 256) (sym (getD-take 20 (drop (20 * p) (k .arrivals)) 0 0 (omega arith) ∙ getD-drop (20 * p) (k .arrivals) 0 0)) (bytes (20 * p + 0) (omega arith));
-      soon = λ p l h. true-times e p l h .to .lt;
-      from = λ p l h. true-times e p l h .from .le;
-      header = λ p l h. true-times e p l h .header;
+      soon = λ p l h. true-time p l h .to .lt;
+      from = λ p l h. true-time p l h .from .le;
+      header = λ p l h. stamp-number c (k .arrivals) p few (omega arith) ∙ true-time p l h .header;
     }
 
 -- ---- runs
@@ -73,22 +77,24 @@ module _ (c : ℕ) where
   abbrev pub next : NotedTick → Router
   next d = ticked c (d .met) (d .call) .router
 
-  -- d notes a tick of a good router, and the outgoing area holds what each port was granted.
+  -- d notes a tick of a good router, whose settings are what was written; the outgoing area holds what each port was granted, and the answers are those of its report.
   pub record Ticking (d : NotedTick) : Type 0 where
     pub good : Good c (d .met)
+    pub settings : AsWritten c (d .past) (d .met)
     pub input : Input c (d .met .clock) (d .call)
     pub report : d .report ≡ ticked c (d .met) (d .call) .report
     pub sends : (p : ℕ) → p < 5 → packet (d .outgoing) p ≡ grantBytes c (d .report .grant p)
+    pub answers : d .answers ≡ answerBytes (d .report)
 
   -- A tick keeps the router good.
   pub next-good : {d : NotedTick} → Ticking d → Good c (next d)
   unfolding ticked
   next-good {d} t = tick-good c (d .met) (d .call) (t .good) (t .input)
 
-  -- A run of ticks h from the router r to w; a quiet call leaves clock and places.
+  -- A run of ticks h from the router r to w; a quiet call leaves clock, places and free list.
   pub data Run : Router → List NotedTick → Router → Type 0 where
     rest : {r : Router} → Good c r → Run r [] r
-    quiet : {r r′ w : Router} {h : List NotedTick} → r′ .clock ≡ r .clock → r′ .place ≡ r .place → Run r′ h w → Run r h w
+    quiet : {r r′ w : Router} {h : List NotedTick} → r′ .clock ≡ r .clock → r′ .place ≡ r .place → r′ .free ≡ r .free → Run r′ h w → Run r h w
     ticks : {w : Router} {h : List NotedTick} (d : NotedTick) → Ticking d → Run (next d) h w → Run (d .met) (d ∷ h) w
 
   -- ---- the clock of a run, and the run at each of its ticks
@@ -98,17 +104,23 @@ module _ (c : ℕ) where
   unfolding ticked
   tick-clock d = ap (λ s. sucℤ (s .clock)) (ended-frame c (d .met) (d .call))
 
+  -- By induction over the run, one more with each tick.
+  pub run-ticks : {r w : Router} {h : List NotedTick} → Run r h w → w .clock ≡ r .clock +ℤ pos (length h)
+  run-ticks (rest {r = r} G) = sym (+ℤ-idr (r .clock))
+  run-ticks (quiet {h = h} ec ep ef R) = run-ticks R ∙ ap (λ (z : ℤ). z +ℤ pos (length h)) ec
+  run-ticks (ticks {h = h} d t R) = run-ticks R ∙ ap (λ (z : ℤ). z +ℤ pos (length h)) (tick-clock d) ∙ sucℤ-+ℤ (d .met .clock) (pos (length h)) ∙ sym (+ℤ-sucℤ (d .met .clock) (pos (length h)))
+
   -- By induction over the run.
   run-clock : {r w : Router} {h : List NotedTick} → Run r h w → T (leZ (r .clock) (w .clock))
   run-clock (rest {r = r} G) = omega (arith, orders)
-  run-clock {w = w} (quiet ec ep R) = subst (λ (z : ℤ). T (leZ z (w .clock))) ec (run-clock R)
+  run-clock {w = w} (quiet ec ep ef R) = subst (λ (z : ℤ). T (leZ z (w .clock))) ec (run-clock R)
   run-clock {w = w} (ticks d t R) = let k = subst (λ (z : ℤ). T (leZ z (w .clock))) (tick-clock d) (run-clock R) in omega (arith, orders, suc-nat (d .met .clock))
 
   -- A run up to a tick, and after it.
   pub split : {r w : Router} {h : List NotedTick} → Run r h w → (before later : List NotedTick) (d : NotedTick) → h ≡ before ++ (d ∷ later) → Ticking d × Run r before (d .met) × Run (next d) later w
   split (rest G) [] later d e = nil-cons e
   split (rest G) (b ∷ bs) later d e = nil-cons e
-  split (quiet ec ep R) before later d e = let (t, S, U) = split R before later d e in (t, quiet ec ep S, U)
+  split (quiet ec ep ef R) before later d e = let (t, S, U) = split R before later d e in (t, quiet ec ep ef S, U)
   split {w = w} (ticks d₀ t R) [] later d e =
       subst (λ (d : NotedTick). Ticking d × Run (d₀ .met) [] (d .met) × Run (next d) later w) (cons-first e) (t, rest (t .good), subst (λ (l : List NotedTick). Run (next d₀) l w) (cons-rest e) R)
   split (ticks d₀ t R) (b ∷ bs) later d e =

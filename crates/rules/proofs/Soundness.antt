@@ -1,4 +1,4 @@
--- What a sound state is, in propositions: its test holds just if every rule of document 01's soundness does. Assumes nothing.
+-- A state's tests of soundness hold just if its rules do (Entries). Assumes nothing.
 use Prim.Native.Nat.{ℕ, zero, suc, _-_, _<_, _≤_}
 use mathlib.Core.Path.{_≡_, refl, sym, ap, _∙_}
 use mathlib.Core.Bool.{Bool, true, false, not, _&&_, _||_, true≢false}
@@ -10,72 +10,13 @@ use lib.Dec.{leb, ltb, eqb}
 use lib.IntN.{ℤ, pos, negℤ}
 use lib.Signed.{_≤ℤ_, leZ, leZ-yes}
 use borrow.Author.Tests.{eq-eqb, ne-eqb, eqb-true, lt-ltb, ltb-true, le-leb, leb-true}
-use Rattle.rules.specs.Clock.{minus, offset}
 use Rattle.rules.specs.Order.{all, topFirst}
-use Rattle.rules.specs.Areas.{Store, bits, half, packet, stamp, elem, distinct}
-use Rattle.rules.specs.Board.{Board, Horizon, Latch, Idle, Time, Deadline, Mask, Delay, Routes, clock, free}
+use Rattle.rules.specs.Areas.{Store, half, packet, stamp, elem, distinct}
+use Rattle.rules.specs.Board.{Board, Latch, Idle, Deadline, Mask, Delay, Routes, free}
+use Rattle.rules.specs.Entries.{SettingsSound, StackSound, delayOf, offsetOf, StoredSound, AllStoredSound, Sound}
 use Rattle.rules.specs.Questions.{connectionSound, horizonSound, settingsSound, stack, listed, stackSound, slotSound, slotsSound, sound}
 use Rattle.rules.proofs.Booleans.{true→T, T→true, and-left, and-right, and-both, or-right, not-false, beq-eq, eq-beq}
 use Rattle.rules.proofs.IndexLaws.{all-at, all-true}
-
--- ---- the rules
-
-module _ (B : Board) where
-  open Board B using (clockBytes as c, get)
-
-  -- d, horizons and registers in range, and the connection table's masks.
-  pub record SettingsSound (s : List ℕ) : Type 0 where
-    -- The delay and the mask of each connection.
-    pub delays : (i : ℕ) → i < 256 → get s (Delay, i) < half c
-    pub masks : (i : ℕ) → i < 256 → get s (Routes, i) ≤ 31
-    -- Each port's horizon.
-    pub horizons : (p : ℕ) → p < 5 → get s (Horizon, p) < half c
-    -- Registers 1, 2 and 4, the last at place 3 of the latch.
-    pub register-1 : get s (Latch, 1) < half c
-    pub register-2 : get s (Latch, 2) ≤ 31
-    pub register-4 : get s (Latch, 3) ≤ 31
-
-  -- The idle-address stack with the free count n.
-  pub record StackSound (s : List ℕ) : Type 0 where
-    -- n is at most 256.
-    pub count : get s free ≤ 256
-    -- The first n entries are different.
-    pub different : (i j : ℕ) → i < j → j < get s free → get s (Idle, i) ≢ get s (Idle, j)
-    -- They are exactly the slots with mask 0: a slot among them has it, and a slot that has it is among them.
-    pub idle-empty : (i k : ℕ) → i < 256 → k < get s free → get s (Idle, k) ≡ i → get s (Mask, i) ≡ 0
-    pub empty-idle : (i : ℕ) → i < 256 → get s (Mask, i) ≡ 0 → (k : ℕ) × (k < get s free) × (get s (Idle, k) ≡ i)
-
-  -- The delay of the packet in slot i, deadline - time, and the offset of its time.
-  abbrev pub delayOf : List ℕ → ℕ → ℕ
-  delayOf s i = minus (bits c) (get s (Deadline, i)) (get s (Time, i))
-
-  abbrev pub offsetOf : List ℕ → ℕ → ℤ
-  offsetOf s i = offset (bits c) (get s (Time, i)) (get s clock)
-
-  -- A packet stored in slot i.
-  pub record StoredSound (r : Store) (i : ℕ) : Type 0 where
-    -- The mask has five bits.
-    pub ports : get (r .state) (Mask, i) ≤ 31
-    -- Its delay is in range.
-    pub in-range : delayOf (r .state) i < half c
-    -- The offset is at least - d, and at most 126 on a clock of one byte.
-    pub not-late : negℤ (pos (delayOf (r .state) i)) ≤ℤ offsetOf (r .state) i
-    pub not-far : offsetOf (r .state) i ≤ℤ pos (half c - 2)
-    -- The header in memory has the deadline.
-    pub header : stamp c (packet (r .memory) i) ≡ get (r .state) (Deadline, i)
-
-  -- Every slot with a mask other than 0 holds a sound packet.
-  abbrev pub AllStoredSound : Store → Type 0
-  AllStoredSound r = (i : ℕ) → i < 256 → get (r .state) (Mask, i) ≢ 0 → StoredSound r i
-
-  -- A sound state, with the memory.
-  pub record Sound (r : Store) : Type 0 where
-    -- The settings are in range.
-    pub settings : SettingsSound (r .state)
-    -- The stack has the empty slots, each once.
-    pub stack : StackSound (r .state)
-    -- The stored packets are in order.
-    pub stored : AllStoredSound r
 
 -- ---- the list f (n - 1), .., f 0
 

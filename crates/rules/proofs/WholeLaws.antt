@@ -3,16 +3,16 @@ use Prim.Native.Nat.{ℕ, zero, suc, _+_, _<_, _≤_}
 use mathlib.Core.Path.{_≡_, refl, sym, ap, subst, _∙_}
 use mathlib.Core.Bool.{Bool, true, false, cond, not, _||_, true≢false, _&&_}
 use mathlib.Core.Logic.{_≢_}
-use mathlib.Core.List.{List, [], _∷_}
+use mathlib.Core.List.{List, [], _∷_, _++_}
 use mathlib.Core.Option.{Option, none, some}
 use native.Mathlib.Decide.{ℕ-discrete}
 use native.Mathlib.Omega.{arith}
-use lib.ListN.{length}
+use lib.ListN.{length, drop}
 use lib.Dec.{T, ltb, eqb}
 use lib.IntN.{ℤ, pos, _+ℤ_}
 use lib.Signed.{leZ}
-use borrow.Author.Tests.{eq-eqb, ne-eqb, eqb-false, lt-ltb, le-ltb}
-use Rattle.rules.specs.Account.{stored, Kept}
+use borrow.Author.Tests.{eq-eqb, ne-eqb, eqb-true, eqb-false, lt-ltb, le-ltb}
+use Rattle.rules.specs.Account.{stored, Kept, Falling}
 use Rattle.rules.specs.Areas.{byte, packet, has, without, elem, distinct, Grant, nobody, bestEffort, onTime, early, asked, arrivalQuestions, arrivalAnswer}
 use Rattle.rules.specs.Order.{count, counted}
 use Rattle.rules.specs.Whole.{Packet, Held, Router, withPlaces, put, Arrival, absent, refused, accepted, placed, admitted, lose, sent, isDue, remaining, emptied, arrivalRefusal, made, arrival, arrivalCode, isHeld}
@@ -46,9 +46,12 @@ tally-put t f i v l =
 
 -- ---- what holds of every held packet
 
--- P holds of what each place holds.
+-- P holds of each place and what it holds, or of what it holds alone.
+abbrev pub AllAt : (ℕ → Held → Type 0) → (ℕ → Option Held) → Type 0
+AllAt P f = (i : ℕ) → i < 256 → (h : Held) → f i ≡ some h → P i h
+
 abbrev pub AllHeld : (Held → Type 0) → (ℕ → Option Held) → Type 0
-AllHeld P f = (i : ℕ) → i < 256 → (h : Held) → f i ≡ some h → P h
+AllHeld P = AllAt (λ i. P)
 
 -- A packet as it is stored.
 abbrev pub fresh-held : Packet → Held
@@ -58,21 +61,20 @@ fresh-held x = record { packet = x; left = x .mask }
 abbrev pub loses : ℕ → Held → Held
 loses p h = record { packet = h .packet; left = without (h .left) p }
 
-module _ (P : Held → Type 0) where
-  -- One place put.
-  pub put-all : (f : ℕ → Option Held) (i : ℕ) (v : Option Held) → ((h : Held) → v ≡ some h → P h) → AllHeld P f → AllHeld P (put f i v)
-  unfolding put
-  put-all f i v hv a j l h e = go (eqb i j) e
-    where
-      go : (t : Bool) → cond t v (f j) ≡ some h → P h
-      go true e = hv h e
-      go false e = a j l h e
+-- One place put.
+pub put-all : (P : ℕ → Held → Type 0) (f : ℕ → Option Held) (i : ℕ) (v : Option Held) → ((h : Held) → v ≡ some h → P i h) → AllAt P f → AllAt P (put f i v)
+unfolding put
+put-all P f i v hv a j l h e = go (eqb i j) refl e
+  where
+    go : (t : Bool) → eqb i j ≡ t → cond t v (f j) ≡ some h → P j h
+    go true q e = subst (λ (k : ℕ). P k h) (eqb-true i j q) (hv h e)
+    go false q e = a j l h e
 
-  -- A place less a port.
-  pub lose-all : (p : ℕ) → ((h : Held) → P h → P (loses p h)) → (v : Option Held) → ((h : Held) → v ≡ some h → P h) → (h : Held) → lose p v ≡ some h → P h
-  unfolding lose
-  lose-all p f none a h e = none-some e
-  lose-all p f (some k) a h e = subst P (some-inj e) (f k (a k refl))
+-- A place less a port.
+pub lose-all : (P : Held → Type 0) (p : ℕ) → ((h : Held) → P h → P (loses p h)) → (v : Option Held) → ((h : Held) → v ≡ some h → P h) → (h : Held) → lose p v ≡ some h → P h
+unfolding lose
+lose-all P p f none a h e = none-some e
+lose-all P p f (some k) a h e = subst P (some-inj e) (f k (a k refl))
 
 -- ---- a step of a tick
 
@@ -140,6 +142,11 @@ module _ (c : ℕ) where
   arrival-passed r arriving p k u x = arrival-by r arriving p k u (λ a. a ≡ accepted x → Passed r arriving p k u x)
       (λ e. let z : _≡_ {A = ℕ} 0 1 = cc in absurd (omega arith)) (λ q l e. let z : _≡_ {A = ℕ} 0 1 = cc in absurd (omega arith)) (λ m e. subst (Passed r arriving p k u) (cc) m)
 
+  -- What is answered by 1 is accepted: a refused packet has 6 or more.
+  pub arrival-taken : (r : Router) (arriving p : ℕ) (k : List ℕ) (u : ℤ) → let a = arrival c r arriving p k u in arrivalCode a ≡ 1 → (x : Packet) × (a ≡ accepted x)
+  unfolding arrivalCode
+  arrival-taken r arriving p k u = arrival-by r arriving p k u (λ a. arrivalCode a ≡ 1 → (x : Packet) × (a ≡ accepted x)) (λ e. absurd (omega arith)) (λ q l e. absurd (omega arith)) (λ m e. (made c r p k u, refl))
+
   -- Its entry is open, and its deadline not past.
   pub arrival-entry : (r : Router) (k : List ℕ) (u : ℤ) → arrivalRefusal c r k u ≡ 0 → (0 < r .entry (byte k 0) .mask) × T (leZ (r .clock) (u +ℤ pos (r .entry (byte k 0) .delay)))
   unfolding arrivalRefusal
@@ -179,6 +186,15 @@ module _ (c : ℕ) where
       first : (l : List ℕ) → (l ≡ [] → ⊥) → length (placed l (made c r p k u) r .free) + 1 ≡ length l
       first [] e = absurd (e refl)
       first (i ∷ l) e = omega arith
+
+  -- It takes the first.
+  pub arrival-drop : (r : Router) (arriving p : ℕ) (k : List ℕ) (u : ℤ) → let a = arrival c r arriving p k u in admitted a r .free ≡ drop (counted (eqb (arrivalCode a) 1)) (r .free)
+  unfolding admitted placed arrivalCode counted
+  arrival-drop r arriving p k u = arrival-by r arriving p k u (λ a. admitted a r .free ≡ drop (counted (eqb (arrivalCode a) 1)) (r .free)) refl (λ q l. rw (ne-eqb q 1 (omega arith))) (λ m. first (r .free) (arrival-room r k u (m .refusal)))
+    where
+      first : (l : List ℕ) → (l ≡ [] → ⊥) → placed l (made c r p k u) r .free ≡ drop 1 l
+      first [] e = absurd (e refl)
+      first (i ∷ l) e = refl
 
 -- ---- free places
 
@@ -319,3 +335,18 @@ remaining-some T (some k) h e = go (isDue T (k .packet)) (eqb (k .left) 0) refl 
 -- What is held after the emptying was held before, is not due and has a port left.
 pub emptied-held : (T : ℤ) (w : Router) (i : ℕ) → i < 256 → (h : Held) → emptied T 256 w .place i ≡ some h → (w .place i ≡ some h) × (isDue T (h .packet) ≡ false) × (eqb (h .left) 0 ≡ false)
 emptied-held T w i l h e = remaining-some T (w .place i) h (sym (emptied-place T w i l) ∙ e)
+
+-- Emptied places go to the front of the free list, the last one first: by induction over the places.
+pub emptied-free : (T : ℤ) (n : ℕ) (w : Router) → (l : List ℕ) × Falling l × ((j : ℕ) → elem j l ≡ true → j < n) × (emptied T n w .free ≡ l ++ w .free)
+unfolding emptied Falling elem
+emptied-free T zero w = ([], tt, λ j e. absurd (true≢false (sym e)), refl)
+emptied-free T (suc n) w = go (emptied-free T n w) (isHeld (emptied T n w .place n) && not (isHeld (remaining T (emptied T n w .place n))))
+  where
+    go : (l : List ℕ) × Falling l × ((j : ℕ) → elem j l ≡ true → j < n) × (emptied T n w .free ≡ l ++ w .free) → (b : Bool)
+        → (l : List ℕ) × Falling l × ((j : ℕ) → elem j l ≡ true → j < suc n) × (cond b (n ∷ emptied T n w .free) (emptied T n w .free) ≡ l ++ w .free)
+    go (l, f, m, e) true = (n ∷ l, (m, f), λ j q. first-or-later j q (ℕ-discrete j n), ap (λ (l : List ℕ). n ∷ l) e)
+      where
+        first-or-later : (j : ℕ) → elem j (n ∷ l) ≡ true → Dec (j ≡ n) → j < suc n
+        first-or-later j q (yes k) = omega arith
+        first-or-later j q (no k) = let b = m j (rw (ne-eqb j n k) at q) in omega arith
+    go (l, f, m, e) false = (l, f, λ j q. let b = m j q in omega arith, e)

@@ -1,10 +1,13 @@
 -- What a board is to the router over bytes: the width of its clock and the fields of its state; and the board of document 01. Assumes nothing.
-use Prim.Native.Nat.{ℕ, _+_, _*_}
+use Prim.Native.Nat.{ℕ, _+_, _-_, _*_, _<_}
+use mathlib.Core.Path.{_≡_}
+use mathlib.Core.Bool.{cond, _&&_}
 use mathlib.Core.List.{List, [], _∷_, _++_}
-use lib.ListN.{take, drop, replicate}
+use lib.ListN.{length, take, drop, replicate}
 use lib.Seq.{sets}
+use lib.Dec.{leb, ltb, eqb}
 use Rattle.rules.specs.Order.{topFirst}
-use Rattle.rules.specs.Areas.{value, digits}
+use Rattle.rules.specs.Areas.{byte, value, digits}
 
 -- The kinds of field in the state: for each port a horizon; the registers' last bytes; the free count n and the entries of the idle-address stack;
 -- for each slot its logical arrival time, deadline and ports still to serve; for each connection its outgoing identifier, delay and mask.
@@ -65,3 +68,12 @@ fresh8 = replicate 9 0 ++ (1 ∷ 0 ∷ []) ++ topFirst (λ i. i) 256 ++ replicat
 
 abbrev pub board8 : Board
 board8 = byTable 1 1804 table8 fresh8
+
+-- The same in document 01's numbers: where a reader of the bytes finds each field, and what a fresh state holds, byte by byte.
+pub record LaidOut8 : Type 0 where
+  pub size : board8 .stateLength ≡ 1804
+  pub settings : (s : List ℕ) (i : ℕ) → (board8 .get s clock ≡ byte s 0) × (board8 .get s (Horizon, i) ≡ byte s (1 + i)) × (board8 .get s (Latch, i) ≡ byte s (6 + i))
+  pub stack : (s : List ℕ) (i : ℕ) → 11 < length s → (board8 .get s free ≡ 256 * byte s 10 + byte s 11) × (board8 .get s (Idle, i) ≡ byte s (12 + i))
+  pub slots : (s : List ℕ) (i : ℕ) → (board8 .get s (Time, i) ≡ byte s (268 + 3 * i)) × (board8 .get s (Deadline, i) ≡ byte s (269 + 3 * i)) × (board8 .get s (Mask, i) ≡ byte s (270 + 3 * i))
+  pub table : (s : List ℕ) (i : ℕ) → (board8 .get s (Outgoing, i) ≡ byte s (1036 + 3 * i)) × (board8 .get s (Delay, i) ≡ byte s (1037 + 3 * i)) × (board8 .get s (Routes, i) ≡ byte s (1038 + 3 * i))
+  pub fresh : (t i : ℕ) → byte (board8 .freshState t) i ≡ cond (eqb i 0) t (cond (eqb i 10) 1 (cond (leb 12 i && ltb i 268) (267 - i) 0))

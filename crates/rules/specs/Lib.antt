@@ -6,5 +6,7 @@ pub mod Tick
 pub mod Questions
 pub mod Whole
 pub mod Calls
+pub mod Given
+pub mod Entries
 pub mod Account
 pub mod Demand3

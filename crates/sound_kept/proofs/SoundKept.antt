@@ -9,14 +9,16 @@ use native.Mathlib.Omega.{arith}
 use lib.Pow.{pow-pos}
 use lib.ListN.{length}
 use lib.Dec.{eqb}
-use lib.IntN.{pos, _+ℤ_}
+use lib.IntN.{ℤ, pos, _+ℤ_}
 use borrow.Author.Tests.{eqb-true, eqb-false}
 use Rattle.rules.specs.Account.{Kept, stored}
 use Rattle.rules.specs.Areas.{Store, Bytes, byte, bits, half, packet, payload, packed, Outcome}
 use Rattle.rules.specs.Board.{Board, Horizon, Latch, Idle, Time, Deadline, Mask, Outgoing, Delay, Routes, clock, free, board8}
-use Rattle.rules.specs.Calls.{Call, control, tick, fed, feed, wholeStep, afterAll}
+use Rattle.rules.specs.Calls.{Call, control, tick, afterAll}
+use Rattle.rules.specs.Given.{clockAfter}
+use Rattle.rules.specs.Entries.{Sound, StoredSound, delayOf, offsetOf}
 use Rattle.rules.specs.Clock.{cut, plus, offset}
-use Rattle.rules.specs.Demand3.{HeldShown, byteStep}
+use Rattle.rules.specs.Demand3.{byteStep}
 use Rattle.rules.specs.Questions.{full, sound, stack}
 use Rattle.sound_kept.specs.SoundKept.{Intact, SoundKept}
 use Rattle.rules.specs.Whole.{Packet, Held, Router, packetBytes, isHeld}
@@ -31,12 +33,12 @@ use Rattle.rules.proofs.ClockLaws.{pow-double}
 use Rattle.rules.proofs.TimeLaws.{cut-pos, cut-back, plus-cut, plus-minus}
 use Rattle.rules.proofs.StateLaws.{reads-self, reads-as, length-stack}
 use Rattle.rules.proofs.Good.{HeldInWindow, Busy, Good}
-use Rattle.rules.proofs.Relation.{on-settings, shown, SlotShows, Rel, rel-free}
-use Rattle.rules.proofs.Soundness.{Sound, StoredSound, delayOf, offsetOf, at-elem, stack-lists, stack-iff, sound-iff}
+use Rattle.rules.proofs.Relation.{on-settings, shown, HeldShown, SlotShows, Rel, rel-free}
+use Rattle.rules.proofs.Soundness.{at-elem, stack-lists, stack-iff, sound-iff}
 use Rattle.passes.proofs.Room.{sound-used}
 use Rattle.rules.proofs.Refine.{mask-held, rel-full, rel-sound}
 use Rattle.rules.proofs.Agreement.{start-good, fresh-rel, agreed}
-use Rattle.rules.proofs.Feed.{feed-proper}
+use Rattle.rules.proofs.Feed.{fed, feed, feed-proper}
 
 module _ (B : Board) (L : Laws B) where
   open Board B using (clockBytes as c, stateLength, get)
@@ -213,17 +215,17 @@ module _ (B : Board) (L : Laws B) where
   -- ---- calls keep it
 
   -- The router over bytes sees no true time.
-  pub fed-bytes : (w : Router) (r : Store) (k : Call) → byteStep B r (fed c w k) ≡ byteStep B r k
+  pub fed-bytes : (T : ℤ) (r : Store) (k : Call) → byteStep B r (fed c T k) ≡ byteStep B r k
   unfolding byteStep fed
-  fed-bytes w r (control register v) = refl
-  fed-bytes w r (tick k out ans) = refl
+  fed-bytes T r (control register v) = refl
+  fed-bytes T r (tick k out ans) = refl
 
-  feed-bytes : (ks : List Call) (w : Router) (r : Store) → afterAll (byteStep B) r (feed c w ks) ≡ afterAll (byteStep B) r ks
+  feed-bytes : (ks : List Call) (T : ℤ) (r : Store) → afterAll (byteStep B) r (feed c T ks) ≡ afterAll (byteStep B) r ks
   unfolding afterAll feed
-  feed-bytes [] w r = refl
-  feed-bytes (k ∷ ks) w r =
-      let k′ = fed c w k in
-      feed-bytes ks (wholeStep c w k′ .after) (byteStep B r k′ .after) ∙ ap (λ (o : Outcome Store). afterAll (byteStep B) (o .after) ks) (fed-bytes w r k)
+  feed-bytes [] T r = refl
+  feed-bytes (k ∷ ks) T r =
+      let k′ = fed c T k in
+      feed-bytes ks (clockAfter c T k′) (byteStep B r k′ .after) ∙ ap (λ (o : Outcome Store). afterAll (byteStep B) (o .after) ks) (fed-bytes T r k)
 
   -- A slot holds a packet where its place does, so none is lost.
   rel-intact : {r : Store} {w : Router} → Rel B L r w → Good c w → Intact B r
@@ -238,8 +240,9 @@ module _ (B : Board) (L : Laws B) where
     fresh = λ t h. rel-intact (fresh-rel B L t h) (start-good c t);
     calls = λ r bs bm f e ks b.
         let w = routerOf r in
-        let a = agreed B L (feed c w ks) (shows r bs bm f e) (good r bs bm f e) (feed-proper c (L .some-bytes) (L .few-bytes) ks w b) in
-        subst (Intact B) (feed-bytes ks w r) (rel-intact (a .rel) (a .good));
+        let T = w .clock in
+        let a = agreed B L (feed c T ks) (shows r bs bm f e) (good r bs bm f e) (feed-proper c (L .some-bytes) (L .few-bytes) ks T b) in
+        subst (Intact B) (feed-bytes ks T r) (rel-intact (a .rel) (a .good));
   }
 
 -- The board of document 01 is lawful.

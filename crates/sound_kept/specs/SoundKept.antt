@@ -6,7 +6,8 @@ use mathlib.Core.List.{List, List·Memᴰ}
 use Rattle.rules.specs.Areas.{Store, Bytes, bits}
 use Rattle.rules.specs.Board.{Board}
 use Rattle.rules.specs.Questions as Q
-use Rattle.rules.specs.Calls.{Call, ByteCall, afterAll}
+use Rattle.rules.specs.Calls.{Call, afterAll}
+use Rattle.rules.specs.Given.{ByteCall}
 use Rattle.rules.specs.Demand3.{byteStep}
 use Rattle.passes.specs.Room.{used}
 
