@@ -25,13 +25,10 @@ use Rattle.rules.proofs.Masks.{has-zero}
 use Rattle.rules.proofs.OrderLaws.{fails}
 use Rattle.rules.proofs.WholeLaws.{elem-first, elem-other}
 use Rattle.rules.proofs.IndexLaws.{count-change, counted-true, counted-false}
-use Rattle.rules.proofs.StateLaws.{Reads, none-out, reads-self, reads-put}
-use Rattle.rules.specs.Entries.{StackSound}
-use Rattle.rules.proofs.Soundness.{elem-at, at-elem, sound-iff}
+use Rattle.rules.proofs.Soundness.{elem-at, at-elem}
 use Rattle.rules.proofs.Good.{Good}
-use Rattle.rules.proofs.Relation.{Rel}
-use Rattle.rules.proofs.Refine.{rel-sound}
-use Rattle.passes.proofs.Arrivals.{stored-has-free}
+use Rattle.rules.proofs.Relation.{Untouched, Rel}
+use Rattle.sound_kept.proofs.Taking.{Taken, stack-sound, addresses, arrivals-taken}
 use Rattle.passes.proofs.Counting.{count-at-most}
 use Rattle.queues.specs.Table1.{before, waits, Lists, Holds}
 use Rattle.queues.specs.Area.{queuesLength, queueAt, queue, size, inQueue}
@@ -114,27 +111,13 @@ module _ (B : Board) (s : List ℕ) where
 module _ (B : Board) (L : Laws B) where
   open Board B using (clockBytes as c, stateLength, get)
 
-  -- A slot reads in s′ as in s.
-  pub record SlotSame (s s′ : List ℕ) (i : ℕ) : Type 0 where
-    pub time : get s′ (Time, i) ≡ get s (Time, i)
-    pub deadline : get s′ (Deadline, i) ≡ get s (Deadline, i)
-    pub mask : get s′ (Mask, i) ≡ get s (Mask, i)
-
-  -- From s to s′ addresses were taken from the stack, whose entries stay, and no slot has changed but theirs.
-  pub record Taken (s s′ : List ℕ) : Type 0 where
-    pub sized : length s′ ≡ stateLength
-    pub fewer : get s′ free ≤ get s free
-    pub entries : (j : ℕ) → j < 256 → get s′ (Idle, j) ≡ get s (Idle, j)
-    pub clock : get s′ clock ≡ get s clock
-    pub others : (i : ℕ) → i < 256 → ((j : ℕ) → get s′ free ≤ j → j < get s free → get s (Idle, j) ≢ i) → SlotSame s s′ i
-
   -- Such a slot has its key, and waits as it did.
-  module _ {s s′ : List ℕ} (T : Taken s s′) {i : ℕ} (S : SlotSame s s′ i) where
-    key-same : slotKey B s i ≡ slotKey B s′ i
+  module _ {r r′ : Store} (T : Taken B L r r′) {i : ℕ} (S : Untouched B L r r′ i) where
+    key-same : slotKey B (r .state) i ≡ slotKey B (r′ .state) i
     unfolding slotKey
     key-same = rw (S .time, S .deadline, T .clock)
 
-    waits-same : (p : ℕ) (e : Bool) → waits B s p e i ≡ waits B s′ p e i
+    waits-same : (p : ℕ) (e : Bool) → waits B (r .state) p e i ≡ waits B (r′ .state) p e i
     unfolding waits
     waits-same p e = rw (S .mask, S .time, T .clock)
 
@@ -142,80 +125,18 @@ module _ (B : Board) (L : Laws B) where
     abbrev s : List ℕ
     s = r .state
 
-    -- The stack is sound, and its entries are slots.
-    stack-sound : StackSound B (r .state)
-    stack-sound = sound-iff B r .0 (rel-sound B L R G) .stack
-
-    addresses : (j : ℕ) → j < get (r .state) free → get (r .state) (Idle, j) < 256
-    unfolding stack
-    addresses j l = G .kept .places (get s (Idle, j)) (ap (elem (get s (Idle, j))) (sym (R .stack)) ∙ elem-at (λ j. get s (Idle, j)) (get s (Idle, j)) (get s free) j l refl)
-
-    -- Their masks are 0.
+    -- The masks of the stack's entries are 0.
     entry-empty : (j : ℕ) → j < get (r .state) free → get (r .state) (Mask, get (r .state) (Idle, j)) ≡ 0
-    entry-empty j l = stack-sound .idle-empty (get s (Idle, j)) j (addresses j l) l refl
+    entry-empty j l = stack-sound B L R G .idle-empty (get s (Idle, j)) j (addresses B L R G j l) l refl
 
-    module _ (arriving : ℕ) (area : List ℕ) where
-      -- A packet placed takes the top address.
-      placed-taken : (r′ : Store) (k : List ℕ) → Taken s (r′ .state) → 0 < get (r′ .state) free → Taken s (placed B r′ k .state)
-      unfolding placed
-      placed-taken r′ k T some = record {
-        sized = stores .sized;
-        fewer = omega (arith, stores .reads free refl (omega arith), T .fewer);
-        entries = λ j l. stores .reads (Idle, j) refl l ∙ T .entries j l;
-        clock = stores .reads clock refl (omega arith) ∙ T .clock;
-        others = λ j l n.
-            let less = stores .reads free refl (omega arith) in
-            let O = T .others j l (λ q a b. n q (omega arith) b) in
-            let no = ne-eqb i j (λ e. n top (omega arith) top-lt (sym at-top ∙ e)) in
-            record {
-              time = stores .reads (Time, j) refl l ∙ rw no (O .time);
-              deadline = stores .reads (Deadline, j) refl l ∙ rw no (O .deadline);
-              mask = stores .reads (Mask, j) refl l ∙ rw no (O .mask);
-            };
-      }
-        where
-          s′ : List ℕ
-          s′ = r′ .state
-
-          top : ℕ
-          top = get s′ free - 1
-
-          top-lt : top < get s free
-          top-lt = let h = T .fewer in omega arith
-
-          i : ℕ
-          i = get s′ (Idle, top)
-
-          at-top : i ≡ get s (Idle, top)
-          at-top = T .entries top (let h = stack-sound .count in let l = top-lt in omega arith)
-
-          hi : i < 256
-          hi = let e = at-top in let h = addresses top top-lt in omega arith
-
-          d : ℕ
-          d = plus (bits c) (stamp c k) (get s′ (Delay, byte k 0))
-
-          m : ℕ
-          m = get s′ (Routes, byte k 0)
-
-          -- Four stores, read back.
-          stores : Reads B L none-out (placed B r′ k .state) (λ f. cond (sameField (Mask, i) f) m (cond (sameField (Deadline, i) f) d (cond (sameField (Time, i) f) (stamp c k) (cond (sameField free f) top (get s′ f)))))
-          stores = reads-put B L (reads-put B L (reads-put B L (reads-put B L (reads-self B L s′ (T .sized)) free top (omega arith)) (Time, i) (stamp c k) hi) (Deadline, i) d hi) (Mask, i) m hi
-
-      -- The arrivals on the ports below p.
-      arrivals-taken : (p : ℕ) → Taken (r .state) (arrived B p arriving area r .state)
-      unfolding arrived
-      arrivals-taken zero = record { sized = R .settings .sized; fewer = omega arith; entries = λ j l. refl; clock = refl; others = λ i l n. record { time = refl; deadline = refl; mask = refl } }
-      arrivals-taken (suc p) = go (arrived B p arriving area r) (arrivals-taken p) (ℕ-discrete (arrival B (arrived B p arriving area r .state) arriving p (packet area p)) 1)
-        where
-          go : (r′ : Store) → Taken s (r′ .state) → Dec (arrival B (r′ .state) arriving p (packet area p) ≡ 1) → Taken s (admitted B r′ arriving p (packet area p) .state)
-          go r′ T (yes e) = rw (eq-eqb (arrival B (r′ .state) arriving p (packet area p)) 1 e) (placed-taken r′ (packet area p) T (stored-has-free B (r′ .state) (packet area p) arriving p e))
-          go r′ T (no n) = rw (ne-eqb (arrival B (r′ .state) arriving p (packet area p)) 1 n) T
-
+    module _ (arriving : ℕ) (area : List ℕ) (whole : length area ≡ 100) where
       -- ---- the packets of step 1 come in
 
+      abbrev r₅ : Store
+      r₅ = arrived B 5 arriving area r
+
       abbrev s₅ : List ℕ
-      s₅ = arrived B 5 arriving area r .state
+      s₅ = r₅ .state
 
       abbrev n₀ : ℕ
       n₀ = get s free
@@ -223,8 +144,8 @@ module _ (B : Board) (L : Laws B) where
       abbrev n₅ : ℕ
       n₅ = get s₅ free
 
-      T : Taken s s₅
-      T = arrivals-taken 5
+      T : Taken B L r r₅
+      T = arrivals-taken B L R G arriving area whole 5 (omega arith)
 
       -- The entries that were taken, from the lowest on; they enter from the highest on, and a slot is pending while it is among the x lowest, which are still to enter.
       abbrev taken : ℕ → ℕ
@@ -234,7 +155,7 @@ module _ (B : Board) (L : Laws B) where
       pending x j = elem j (topFirst taken x)
 
       -- A slot that was not taken is as it was.
-      kept : (i : ℕ) → i < 256 → pending (n₀ - n₅) i ≡ false → SlotSame s s₅ i
+      kept : (i : ℕ) → i < 256 → pending (n₀ - n₅) i ≡ false → Untouched B L r r₅ i
       kept i l e = T .others i l (λ j a b q.
           let z : n₅ + (j - n₅) ≡ j = omega arith in
           true≢false (sym (elem-at taken i (n₀ - n₅) (j - n₅) (omega arith) (ap (λ (k : ℕ). get s (Idle, k)) z ∙ q)) ∙ e))
@@ -248,7 +169,7 @@ module _ (B : Board) (L : Laws B) where
           rw (z, has-zero p h) (and-false (ltb i 256))
 
       -- What waited is as it was.
-      waited : (p : ℕ) → p < 5 → (e : Bool) (i : ℕ) → waits B s p e i ≡ true → SlotSame s s₅ i
+      waited : (p : ℕ) → p < 5 → (e : Bool) (i : ℕ) → waits B s p e i ≡ true → Untouched B L r r₅ i
       waited p h e i a = kept i (waits-slot B s p e i a .0) (fails (pending (n₀ - n₅) i) (λ t. true≢false (sym a ∙ taken-waits p h e i t)))
 
       -- So what waited is what waits now and was not taken.
@@ -263,7 +184,7 @@ module _ (B : Board) (L : Laws B) where
 
       -- An entry stands on the stack once.
       once : (x : ℕ) → x < n₀ - n₅ → pending x (taken x) ≡ false
-      once x h = fails (pending x (taken x)) (λ a. let (j, l, q) = at-elem taken (taken x) x a in stack-sound .different (n₅ + j) (n₅ + x) (omega arith) (omega arith) q)
+      once x h = fails (pending x (taken x)) (λ a. let (j, l, q) = at-elem taken (taken x) x a in stack-sound B L R G .different (n₅ + j) (n₅ + x) (omega arith) (omega arith) q)
 
       module _ (q : List ℕ) (sized : length q ≡ queuesLength) (holds : (p : ℕ) → p < 5 → (e : Bool) → Holds B (r .state) p e (inQueue (queue q p e))) where
         -- k of them have entered, and x are to enter.
@@ -274,11 +195,11 @@ module _ (B : Board) (L : Laws B) where
             rw z (lists-as (holds p h e) (waits-now p h e) (λ i j a b. before-same B s s₅ i j (key-same T (waited p h e i a)) (key-same T (waited p h e j b))))
         received-lists (suc k) x m p h e =
             let z : n₀ - suc k ≡ n₅ + x = let f = T .fewer in omega arith in
-            let i : get s₅ (Idle, n₀ - suc k) ≡ taken x = ap (λ (j : ℕ). get s₅ (Idle, j)) z ∙ T .entries (n₅ + x) (let l = stack-sound .count in omega arith) in
+            let i : get s₅ (Idle, n₀ - suc k) ≡ taken x = ap (λ (j : ℕ). get s₅ (Idle, j)) z ∙ T .entries (n₅ + x) (let l = stack-sound B L R G .count in omega arith) in
             rw i
             (lists-same
             (entered-lists B s₅ (received B s₅ n₀ k q) (length-received B s₅ n₀ k q sized) (received-lists k (suc x) (omega arith)) (λ p e j t. waits-slot B s₅ p e j (and-left (waits B s₅ p e j) (not (pending (suc x) j)) t) .0)
-            (taken x) (addresses (n₅ + x) (omega arith)) (λ p h e. rw (elem-first (taken x) (topFirst taken x)) (and-false (waits B s₅ p e (taken x)))) p h e)
+            (taken x) (addresses B L R G (n₅ + x) (omega arith)) (λ p h e. rw (elem-first (taken x) (topFirst taken x)) (and-false (waits B s₅ p e (taken x)))) p h e)
             (λ j. next j (ℕ-discrete j (taken x))))
           where
             next : (j : ℕ) → Dec (j ≡ taken x) → ((waits B s₅ p e j && not (pending (suc x) j)) || (waits B s₅ p e (taken x) && eqb j (taken x))) ≡ (waits B s₅ p e j && not (pending x j))

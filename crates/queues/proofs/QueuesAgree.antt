@@ -36,7 +36,9 @@ use Rattle.passes.specs.Sends.{Winner, sentBy}
 use Rattle.passes.proofs.Packets.{length-won}
 use Rattle.passes.proofs.Sends.{granted-wins, granted-served, granted-ports}
 use Rattle.rules.proofs.Faults.{sound-asked}
-use Rattle.sound_kept.proofs.SoundKept.{shows, good, fed-bytes}
+use Rattle.sound_kept.proofs.Showing.{shows-rel, shows-good}
+use Rattle.sound_kept.proofs.SoundKept.{routerOf, sound-store, shows-router, fed-bytes}
+use Rattle.sound_kept.specs.AnySound.{SoundStore, Shows}
 use Rattle.queues.specs.Table1.{Holds}
 use Rattle.queues.specs.Area.{queuesLength, queue}
 use Rattle.queues.specs.Engine.{Bench, eachPort, sentFrom, received, queueGrant, dueFrom, moveOver, arrivedBench, tickedBy, ticked}
@@ -204,10 +206,10 @@ module _ (B : Board) (L : Laws B) where
         let s = arrived B 5 (k .arriving) (k .arrivals) (b .store) .state in
         received B s n (n - get s free) (b .queues)
 
-    received-hold : (k : TickCall) → AllHold B (record { store = arrived B 5 (k .arriving) (k .arrivals) (b .store); queues = q₁ k })
-    received-hold k = record {
+    received-hold : (k : TickCall) → length (k .arrivals) ≡ 100 → AllHold B (record { store = arrived B 5 (k .arriving) (k .arrivals) (b .store); queues = q₁ k })
+    received-hold k whole = record {
       sized = length-received B _ _ _ (b .queues) (H .sized);
-      holds = received-holds B L R G (k .arriving) (k .arrivals) (b .queues) (H .sized) (H .holds);
+      holds = received-holds B L R G (k .arriving) (k .arrivals) whole (b .queues) (H .sized) (H .holds);
     }
 
     -- Both ask the same. A control write leaves places and clock; a tick is that of the grants.
@@ -226,7 +228,7 @@ module _ (B : Board) (L : Laws B) where
         (decided (eqb (tickRefusal B (b .store) (k .arriving) (k .bestEffort) (k .arrivals) out ans) 0)
         (λ e.
         let I = input-of c (L .few-bytes) w k out ans hb ht (sym (tick-number B L R G k out ans) ∙ eqb-true _ 0 e) in
-        record { reply = reply-same R G k I (q₁ k) (received-hold k); store = store-same R G k I (q₁ k) (received-hold k); hold = ended-hold R G k I (q₁ k) (received-hold k) })
+        record { reply = reply-same R G k I (q₁ k) (received-hold k (I .whole)); store = store-same R G k I (q₁ k) (received-hold k (I .whole)); hold = ended-hold R G k I (q₁ k) (received-hold k (I .whole)) })
         (record { reply = refl; store = refl; hold = H }))
 
     -- What the ports send in an accepted tick.
@@ -250,7 +252,7 @@ module _ (B : Board) (L : Laws B) where
         go : (a : Bool) → eqb n 0 ≡ a → cond a t refused .reply .number ≡ 0 → FirstsSent B b k (cond a t refused .reply .outgoing) (cond a t refused .reply .answers)
         go true q z =
             let I = input-of c (L .few-bytes) w k out ans hb ht (sym (tick-number B L R G k out ans) ∙ eqb-true n 0 q) in
-            record { chosenFrom = received-hold k; sends = sends R G k I (q₁ k) (received-hold k) }
+            record { chosenFrom = received-hold k (I .whole); sends = sends R G k I (q₁ k) (received-hold k (I .whole)) }
         go false q z = absurd (true≢false (sym (eq-eqb n 0 z) ∙ q))
 
   -- ---- a list of calls
@@ -297,8 +299,14 @@ module _ (B : Board) (L : Laws B) where
   agrees : Agrees B
   unfolding Agrees Engine.fill asked
   agrees r bs bm f e q z =
-      rw (eq-eqb (length q) queuesLength z, f, sound-asked B 15 r [] e) (let H = filled-hold in (refl, refl, H, λ ks hb. after-calls ks (shows B L r bs bm f e) (good B L r bs bm f e) H hb))
+      rw (eq-eqb (length q) queuesLength z, f, sound-asked B 15 r [] e) (let H = filled-hold in (refl, refl, H, λ ks hb. after-calls ks (shows-rel B L Q S) (shows-good B L Q S) H hb))
     where
+      Q : SoundStore B r
+      Q = sound-store B L r bs bm f e
+
+      S : Shows B r (routerOf B L r)
+      S = shows-router B L r Q
+
       filled-hold : AllHold B (record { store = r; queues = Engine.filled B (r .state) 256 })
       filled-hold = record { sized = length-filled B (r .state) 256; holds = filled-holds B (r .state) }
 

@@ -94,7 +94,7 @@ module _ (B : Board) where
       }
 
   -- The lengths of state and memory, and of a tick's other areas.
-  full-iff : (r : Store) → (full B r ≡ true) ↔ Sized B r
+  pub full-iff : (r : Store) → (full B r ≡ true) ↔ Sized B r
   unfolding full
   full-iff r =
       let parts = and-iff (eqb (length (r .state)) stateLength) (eqb (length (r .memory)) 5120) in
@@ -222,7 +222,7 @@ module _ (B : Board) where
   -- ---- refusals
 
   -- A call gives the number of its questions, and does its work only where this is 0.
-  refused : {R : Type 0} (n : ℕ) (o o′ : Outcome R) → o .reply .number ≡ 0 → o′ .reply .number ≡ n → let q = cond (eqb n 0) o o′ in (q .reply .number ≡ n) × (q .reply .number ≢ 0 → q ≡ o′)
+  pub refused : {R : Type 0} (n : ℕ) (o o′ : Outcome R) → o .reply .number ≡ 0 → o′ .reply .number ≡ n → let q = cond (eqb n 0) o o′ in (q .reply .number ≡ n) × (q .reply .number ≢ 0 → q ≡ o′)
   refused n o o′ e e′ = go (ℕ-discrete n 0)
     where
       go : Dec (n ≡ 0) → let q = cond (eqb n 0) o o′ in (q .reply .number ≡ n) × (q .reply .number ≢ 0 → q ≡ o′)

@@ -56,7 +56,7 @@ module _ (c : ℕ) (some-bytes : 0 < c) (few-bytes : c < 20) where
       subst (λ (n : ℕ). value (take c (drop 1 k)) < n) (full-bits c some-bytes) (part-lt c 1 k (bytes-part 20 (20 * p) area h) (let l : length k ≡ 20 = length-packet area p (omega arith) in omega arith))
 
   -- The offset is in the signed range, and its sum with the clock is cut to the header's time.
-  true-time : (T : ℤ) (k : TickCall) → ((p : ℕ) → k .times p ≡ T +ℤ offset (bits c) (stamp c (packet (k .arrivals) p)) (cut (bits c) T)) → length (k .arrivals) ≡ 100 → Bytes (k .arrivals) → (p : ℕ) → p < 5 → TrueTime c T k p
+  pub true-time : (T : ℤ) (k : TickCall) → ((p : ℕ) → k .times p ≡ T +ℤ offset (bits c) (stamp c (packet (k .arrivals) p)) (cut (bits c) T)) → length (k .arrivals) ≡ 100 → Bytes (k .arrivals) → (p : ℕ) → p < 5 → TrueTime c T k p
   unfolding half bits offset
   true-time T k u e h p hp =
       let x = stamp c (packet (k .arrivals) p) in

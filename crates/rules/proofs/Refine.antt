@@ -1,8 +1,8 @@
 -- The relation makes the store sound, since a good router's settings and times are in range; and a tick keeps it with equal replies, step by step. Assumes nothing.
-use Prim.Native.Nat.{ℕ, _-_, _/_, _%_, _<_}
+use Prim.Native.Nat.{ℕ, _-_, _/_, _%_, _<_, _≤_}
 use mathlib.Core.Path.{_≡_, refl, sym, ap, ap₂, _∙_}
-use mathlib.Core.Bool.{true, not}
-use mathlib.Core.Logic.{_≢_}
+use mathlib.Core.Bool.{true, false, not, _||_}
+use mathlib.Core.Logic.{_≢_, _⊎_}
 use mathlib.Core.List.{List, [], _∷_, _++_}
 use mathlib.Core.Option.{Option, none, some}
 use native.Mathlib.Omega.{arith}
@@ -13,13 +13,13 @@ use lib.IntN.{sucℤ, _-ℤ_}
 use borrow.Author.Tests.{eq-eqb, ne-eqb}
 use Rattle.rules.specs.Account.{Kept, stored}
 use Rattle.rules.specs.Areas.{bits, half, value, digits, packet, stamp, packed, portsBelow, perPort, answersArea, Grant, nobody, bestEffort, onTime, early, elem, distinct, Store}
-use Rattle.rules.specs.Board.{Board, Horizon, Latch, Mask, Delay, Routes, clock, free}
+use Rattle.rules.specs.Board.{Board, Kind, Horizon, Latch, Free, Idle, Mask, Delay, Routes, clock, free}
 use Rattle.rules.specs.Clock.{cut, plus, minus, offset}
 use Rattle.rules.specs.Entries.{StoredSound, delayOf, offsetOf}
 use Rattle.rules.specs.Questions.{sound, full}
 use Rattle.rules.specs.Tick.{arrived, served, withdrawn, returned}
 use Rattle.rules.specs.Whole.{Held, Router, TickCall, emptied, packetBytes, outgoingBytes, answerBytes, isHeld}
-use Rattle.rules.proofs.BoardLaws.{Laws}
+use Rattle.rules.proofs.BoardLaws.{Laws, Valid, sameKind}
 use Rattle.rules.specs.Tick as Tick
 use Rattle.rules.specs.Whole as Whole
 use Rattle.rules.proofs.Booleans.{and-both}
@@ -34,7 +34,7 @@ use Rattle.rules.proofs.StateLaws.{reads-self, reads-as, reads-put, rea
 use Rattle.rules.proofs.Relation.{on-settings, SettingsShown, SlotShows, Rel, with-state, rel-room, rel-settings}
 use Rattle.rules.proofs.RefineArrivals.{arrived-rel, arrived-code}
 use Rattle.rules.proofs.RefineServed.{served-rel, served-bytes, served-code}
-use Rattle.rules.proofs.RefineEmptied.{ended-rel, withdrawals-same}
+use Rattle.rules.proofs.RefineEmptied.{ended-rel, ended-slots, ended-entries, withdrawals-same}
 
 -- Port by port.
 perPort-same : (f g : ℕ → List ℕ) → ((p : ℕ) → p < 5 → f p ≡ g p) → perPort f ≡ perPort g
@@ -152,6 +152,13 @@ module _ (B : Board) (L : Laws B) where
 
       R₄ : Rel B L (with-state B L r₁ s₄) w₄
       R₄ = ended-rel B L R₂ K₂ F₂ (r₁ .state) was
+
+      -- Steps 4 and 5 change of the slots their masks alone, and of the stack's entries those from the free count after step 1 up to the one after them.
+      pub tick-slots : (k : Kind) → (sameKind k Free || sameKind k Idle) ≡ false → sameKind Mask k ≡ false → (i : ℕ) → Valid (k, i) → get s₄ (k, i) ≡ get s₂ (k, i)
+      tick-slots = ended-slots B L R₂ K₂ F₂ (r₁ .state) was
+
+      pub tick-entries : (j : ℕ) → j < 256 → (j < get s₂ free) ⊎ (get s₄ free ≤ j) → get s₄ (Idle, j) ≡ get s₂ (Idle, j)
+      tick-entries = ended-entries B L R₂ K₂ F₂ (r₁ .state) was
 
       -- A tick keeps the relation: the last step stores the clock alone.
       pub tick-rel : Rel B L (Tick.ticked B r (call .arriving) b (call .arrivals) .after) (Whole.ticked c w call .router)

@@ -3,6 +3,7 @@ use Prim.Native.Nat.{ℕ, zero, suc, _+_, _<_, _≤_}
 use mathlib.Core.Path.{_≡_, refl, sym, ap, ap₂, subst, _∙_}
 use mathlib.Core.Bool.{Bool, true, false, cond, not, _&&_, _||_}
 use mathlib.Core.List.{List, _∷_}
+use mathlib.Core.Logic.{_≢_, _⊎_, inl, inr, ⊎-elim}
 use mathlib.Core.Option.{Option, none, some}
 use native.Mathlib.Omega.{arith}
 use lib.ListN.{length, length-append}
@@ -16,7 +17,7 @@ use Rattle.rules.specs.Order.{count, counted, topFirst}
 use Rattle.rules.specs.Questions.{stack}
 use Rattle.rules.specs.Tick.{isDue as isDueNow, withdrawn, withdrawals, giveBack, returned}
 use Rattle.rules.specs.Whole.{Held, Router, toServe, isDue, due, remaining, emptied, isHeld}
-use Rattle.rules.proofs.BoardLaws.{Laws, sameKind, sameField}
+use Rattle.rules.proofs.BoardLaws.{Laws, Valid, sameKind, sameField}
 use Rattle.rules.specs.Whole as Whole
 use Rattle.rules.proofs.Booleans.{and-left}
 use Rattle.rules.proofs.IndexLaws.{count-pos}
@@ -58,7 +59,7 @@ module _ (B : Board) (L : Laws B) where
   -- ---- step 4
 
   -- It clears the mask of each slot that is due, one slot after the other.
-  withdrawn-reads : (s : List ℕ) → length s ≡ stateLength → (n : ℕ) → n ≤ 256 → Reads B L none-out (withdrawn B n s) (marked B L Mask (isDueNow B s) 0 (get s) n)
+  pub withdrawn-reads : (s : List ℕ) → length s ≡ stateLength → (n : ℕ) → n ≤ 256 → Reads B L none-out (withdrawn B n s) (marked B L Mask (isDueNow B s) 0 (get s) n)
   unfolding withdrawn
   withdrawn-reads s z zero l = marked-none B L Mask (isDueNow B s) 0 (get s) (reads-self B L s z)
   withdrawn-reads s z (suc n) l =
@@ -72,16 +73,27 @@ module _ (B : Board) (L : Laws B) where
     push-reads : t Free ≡ true → t Idle ≡ true → Reads B L t (giveBack B i s) σ
     push-reads h₃ h₄ = reads-off B L (reads-off B L R (Idle, get s free) i room h₄) free (get s free + 1) (omega arith) h₃
 
+    -- Two stores, read back.
+    pushed : let n = get s free in Reads B L none-out (giveBack B i s) (λ f. cond (sameField free f) (n + 1) (cond (sameField (Idle, n) f) i (get s f)))
+    pushed = reads-put B L (reads-put B L (reads-self B L s (R .sized)) (Idle, get s free) i room) free (get s free + 1) (omega arith)
+
     -- The entry stored is the top, and those below stay.
     push-stack : stack B (giveBack B i s) ≡ i ∷ stack B s
     unfolding stack topFirst
     push-stack =
         let n = get s free in
-        let P : Reads B L none-out (giveBack B i s) (λ f. cond (sameField free f) (n + 1) (cond (sameField (Idle, n) f) i (get s f))) = reads-put B L (reads-put B L (reads-self B L s (R .sized)) (Idle, n) i room) free (n + 1) (omega arith) in
+        let P = pushed in
         let e : get (giveBack B i s) free ≡ suc n = P .reads free refl (omega arith) ∙ omega arith in
         ap (topFirst (λ j. get (giveBack B i s) (Idle, j))) e
         ∙ ap₂ (λ (x : ℕ) (l : List ℕ). x ∷ l) (P .reads (Idle, n) refl room ∙ rw (eq-eqb n n refl))
         (topFirst-same (λ j. get (giveBack B i s) (Idle, j)) (λ j. get s (Idle, j)) n (λ j h. P .reads (Idle, j) refl (omega arith) ∙ rw (ne-eqb n j (omega arith))))
+
+    -- The count is one more, and every other entry stays.
+    push-entries : (get (giveBack B i s) free ≡ suc (get s free)) × ((j : ℕ) → j < 256 → j ≢ get s free → get (giveBack B i s) (Idle, j) ≡ get s (Idle, j))
+    push-entries =
+        let n = get s free in
+        let P = pushed in
+        (P .reads free refl (omega arith) ∙ omega arith, λ j l d. P .reads (Idle, j) refl l ∙ rw (ne-eqb n j (λ e. d (sym e))))
 
   -- ---- both steps
 
@@ -125,11 +137,13 @@ module _ (B : Board) (L : Laws B) where
     abbrev stacks : Kind → Bool
     stacks k = sameKind k Free || sameKind k Idle
 
-    -- After the slots below n: settings and slots stay, and the stack is the free list.
+    -- After the slots below n: settings and slots stay, the stack is the free list, and its entries stay but those from the free count met up to the one now.
     record Back (n : ℕ) : Type 0 where
       settings : SettingsShown B L (back n) w
       slots : Reads B L stacks (back n) (get s₃)
       stacked : stack B (back n) ≡ e n .free
+      more : get s free ≤ get (back n) free
+      entries : (j : ℕ) → j < 256 → (j < get s free) ⊎ (get (back n) free ≤ j) → get (back n) (Idle, j) ≡ get s (Idle, j)
 
     -- A slot goes back just where its place is emptied; there is room, as that place was held.
     back-step : (n : ℕ) → n < 256 → Back n → Back (suc n)
@@ -161,12 +175,19 @@ module _ (B : Board) (L : Laws B) where
         finish : (b : Bool) → leaves t v ≡ b → Back (suc n)
         finish true m =
             let h = room (and-left (isHeld v) (not (isHeld (remaining t v))) m) in
+            let (k, f) = push-entries (P .settings) n h in
             record {
               settings = rw (tests, m) (push-reads (P .settings) n h refl refl);
               slots = rw (tests, m) (push-reads (P .slots) n h refl refl);
               stacked = rw (tests, free-after, m) (push-stack (P .settings) n h ∙ ap (λ (l : List ℕ). n ∷ l) (P .stacked));
+              more = rw (tests, m) (let a = P .more in omega arith);
+              entries = rw (tests, m) (λ j l o. f j l (apart j o) ∙ P .entries j l (⊎-elim (λ a. inl a) (λ a. inr (omega arith)) o));
             }
-        finish false m = record { settings = rw (tests, m) (P .settings); slots = rw (tests, m) (P .slots); stacked = rw (tests, free-after, m) (P .stacked) }
+          where
+            apart : (j : ℕ) → (j < get s free) ⊎ (get (giveBack B n s′) free ≤ j) → j ≢ get s′ free
+            apart j (inl a) = let b = P .more in omega arith
+            apart j (inr a) = let (k, f) = push-entries (P .settings) n (room (and-left (isHeld v) (not (isHeld (remaining t v))) m)) in omega arith
+        finish false m = record { settings = rw (tests, m) (P .settings); slots = rw (tests, m) (P .slots); stacked = rw (tests, free-after, m) (P .stacked); more = rw (tests, m) (P .more); entries = rw (tests, m) (P .entries) }
 
     -- By induction over the slots; withdrawal leaves settings and stack.
     backs : (n : ℕ) → n ≤ 256 → Back n
@@ -175,6 +196,8 @@ module _ (B : Board) (L : Laws B) where
       settings = reads-through B L (reads-apart B L Mask _ 0 refl (reads-less B L M)) (R .settings);
       slots = reads-self B L s₃ (M .sized);
       stacked = stack-same B L s s₃ (rel-room B L R K) (M .reads free refl (omega arith)) (λ i m. M .reads (Idle, i) refl m) ∙ R .stack;
+      more = let e = M .reads free refl (omega arith) in omega arith;
+      entries = λ j m o. M .reads (Idle, j) refl m;
     }
     backs (suc n) l = back-step n (omega arith) (backs n (omega arith))
 
@@ -210,6 +233,13 @@ module _ (B : Board) (L : Laws B) where
           place = λ i l. subst (SlotShows B L (with-state B L r (back 256)) i) (sym (emptied-place t w i l)) (ended-here i l);
           stack = P .stacked;
         }
+
+    -- Of the slots they change the masks alone, and of the stack's entries those from the free count met up to the one after.
+    pub ended-slots : (k : Kind) → (sameKind k Free || sameKind k Idle) ≡ false → sameKind Mask k ≡ false → (i : ℕ) → Valid (k, i) → get (back 256) (k, i) ≡ get s (k, i)
+    ended-slots k a b i v = backs 256 (omega arith) .slots .reads (k, i) a v ∙ M .reads (k, i) refl v ∙ rw b
+
+    pub ended-entries : (j : ℕ) → j < 256 → (j < get s free) ⊎ (get (back 256) free ≤ j) → get (back 256) (Idle, j) ≡ get s (Idle, j)
+    ended-entries = backs 256 (omega arith) .entries
 
     -- ---- what is counted as withdrawn
 

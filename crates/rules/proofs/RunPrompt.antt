@@ -34,7 +34,7 @@ use Rattle.rules.proofs.RunAccounts.{same-self, left-x, router-at, arri
 
 module _ (c : ℕ) (w : Router) (call : TickCall) where
   -- Each accepted arrival takes one free place.
-  arrivals-free : (p : ℕ) → length (after c w call p .free) + count p (λ q. eqb (arrivalCode (meets c call (after c w call q) q)) 1) ≡ length (w .free)
+  pub arrivals-free : (p : ℕ) → length (after c w call p .free) + count p (λ q. eqb (arrivalCode (meets c call (after c w call q) q)) 1) ≡ length (w .free)
   unfolding arrived count
   arrivals-free zero = omega arith
   arrivals-free (suc p) =

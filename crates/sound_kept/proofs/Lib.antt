@@ -1,1 +1,4 @@
+pub mod Showing
+pub mod Taking
 pub mod SoundKept
+pub mod Leaving

@@ -1,1 +1,2 @@
 pub mod SoundKept
+pub mod AnySound

@@ -1,0 +1,3 @@
+pub mod Routers
+pub mod Lists
+pub mod ShutOut
