@@ -15,7 +15,6 @@ use Rattle.rules.specs.Tick as Bytes
 use Rattle.rules.specs.Whole.{Router, TickCall, start}
 use Rattle.rules.specs.Calls.{Call, tick, refusal, wholeStep, afterAll}
 use Rattle.rules.specs.Given.{ByteCall, TrueTimes, Proper}
-use Rattle.rules.specs.Entries.{Sized}
 use Rattle.rules.specs.Demand3.{byteStep, ourBytes, ourWhole, AfterCalls, Holds}
 use Rattle.rules.proofs.Theorem.{demand3}
 use Rattle.rules.proofs.Board8Laws.{lawful8}
@@ -34,8 +33,9 @@ module _ (t : ℕ) (h : t < 256) (ks : List Call) (P : Proper 1 (pos t) ks) wher
   unfolding Holds fresh A.bits
   after-calls =
       let r = fresh board8 t in
-      let s : Sized board8 r = (lawful8 .length-fresh t, length-replicate {A = ℕ} 5120 0) in
-      subst₂ (λ (o : Outcome Store) (ks : List Call). AfterCalls board8 (ourBytes board8) (ourWhole board8) o t ks) (fresh-made board8 lawful8 r s t) (take-length ks) (demand3 .holds r s t h ks P (length ks) (le-refl (length ks)))
+      let s = lawful8 .length-fresh t in
+      let m = length-replicate {A = ℕ} 5120 0 in
+      subst₂ (λ (o : Outcome Store) (ks : List Call). AfterCalls board8 (ourBytes board8) (ourWhole board8) o t ks) (fresh-made board8 lawful8 r s m t) (take-length ks) (demand3 .holds r s m t h ks P (length ks) (le-refl (length ks)))
 
   -- And what it comes from: both routers are related, and what was noted makes a run.
   pub agreed-after : Agreed board8 lawful8 (fresh board8 t) (start t) ks

@@ -35,7 +35,7 @@ use Rattle.rules.proofs.Relation.{SlotShows, Rel}
 use Rattle.passes.specs.Sends.{Winner, sentBy}
 use Rattle.passes.proofs.Packets.{length-won}
 use Rattle.passes.proofs.Sends.{granted-wins, granted-served, granted-ports}
-use Rattle.rules.proofs.Faults.{sound-asked}
+use Rattle.rules.proofs.Soundness.{sound-asked}
 use Rattle.sound_kept.proofs.Showing.{shows-rel, shows-good}
 use Rattle.sound_kept.proofs.SoundKept.{routerOf, sound-store, shows-router, fed-bytes}
 use Rattle.sound_kept.specs.AnySound.{SoundStore, Shows}

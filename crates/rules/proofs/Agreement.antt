@@ -14,7 +14,6 @@ use Rattle.rules.specs.Areas.{Store, Reply, Outcome, numberReply, bits, 
 use Rattle.rules.specs.Board.{Board, Horizon, Latch, Idle, Mask, Outgoing, Delay, Routes, clock, free}
 use Rattle.rules.specs.Calls.{Call, control, tick, afterAll, replies, refusal, refuse, accept, wholeStep}
 use Rattle.rules.specs.Given.{numberDue, AsWritten, isTick, acceptedTicks, ByteCall, TrueTimes, clockAfter, Proper}
-use Rattle.rules.specs.Entries.{Sized, Sound}
 use Rattle.rules.specs.Questions.{full, written, controlRefusal, tickRefusal, fresh, makeFresh, stack}
 use Rattle.rules.specs.Demand3.{noted, byteStep, history, ourBytes, ourWhole, PlaceShown, Shown, AfterCalls, Holds}
 use Rattle.rules.specs.Order.{all, count, counted, topFirst}
@@ -31,8 +30,7 @@ use Rattle.rules.proofs.ByteLaws.{packet-at, topFirst-at}
 use Rattle.rules.proofs.GivenLaws.{number-due, step-number, step-clock, numbers-due, step-kept, start-written, settings-written}
 use Rattle.rules.proofs.TimeLaws.{cut-pos, half-pos}
 use Rattle.rules.proofs.StateLaws.{topFirst-same}
-use Rattle.rules.proofs.Soundness.{at-elem, sound-iff}
-use Rattle.rules.proofs.Faults.{sound-asked}
+use Rattle.rules.proofs.Soundness.{at-elem, sound-asked}
 use Rattle.rules.proofs.Relation.{shown, on-settings, SlotShows, Rel, rel-free, with-state}
 use Rattle.rules.proofs.Refine.{rel-sound, rel-full, tick-rel, reply-same, sends-same, answers-same}
 use Rattle.rules.proofs.RefineControl.{written-rel}
@@ -190,10 +188,6 @@ module _ (B : Board) (L : Laws B) where
             ap (λ (n : ℕ). get (r .state) (Idle, n - 1 - i)) (sym n) ∙ sym (topFirst-at (λ i. get (r .state) (Idle, i)) (get (r .state) free) i (omega arith)) ∙ ap (λ (l : List ℕ). getD l i 0) (R .stack);
       }
 
-  -- It has its lengths, and is sound.
-  pub rel-intact : {r : Store} {w : Router} → Rel B L r w → Good c w → Sized B r × Sound B r
-  rel-intact {r} R G = ((R .settings .sized, R .whole), sound-iff B r .0 (rel-sound B L R G))
-
   -- A beginning of a proper list is proper.
   proper-take : (n : ℕ) (ks : List Call) (T : ℤ) → Proper c T ks → Proper c T (take n ks)
   unfolding Proper
@@ -202,9 +196,9 @@ module _ (B : Board) (L : Laws B) where
   proper-take (suc n) (k ∷ ks) T P = (P .0, P .1, proper-take n ks (clockAfter c T k) (P .2))
 
   -- Areas of their lengths are made fresh.
-  pub fresh-made : (r : Store) → Sized B r → (t : ℕ) → makeFresh B r t ≡ record { reply = numberReply 0; after = fresh B t }
+  pub fresh-made : (r : Store) → length (r .state) ≡ stateLength → length (r .memory) ≡ 5120 → (t : ℕ) → makeFresh B r t ≡ record { reply = numberReply 0; after = fresh B t }
   unfolding makeFresh full
-  fresh-made r (s, m) t = rw (eq-eqb (length (r .state)) stateLength s, eq-eqb (length (r .memory)) 5120 m)
+  fresh-made r s m t = rw (eq-eqb (length (r .state)) stateLength s, eq-eqb (length (r .memory)) 5120 m)
 
   -- The whole claim for one list.
   after-calls : (t : ℕ) → t < 2 ^ bits c → (ks : List Call) → Proper c (pos t) ks → AfterCalls B (ourBytes B) (ourWhole B) (record { reply = numberReply 0; after = fresh B t }) t ks
@@ -215,7 +209,7 @@ module _ (B : Board) (L : Laws B) where
         made = refl;
         numbers = numbers-due c (start t) ks;
         agree = a .replies;
-        sound = rel-intact (a .rel) (a .good);
+        sound = (a .rel .settings .sized, a .rel .whole, rel-sound B L (a .rel) (a .good));
         shown = rel-shown (a .rel) (a .good);
         settings = settings-written c t ks;
         ticks = noted-ticks ks [] (fresh B t) (start t);
@@ -225,4 +219,4 @@ module _ (B : Board) (L : Laws B) where
   -- And so for each of its beginnings, whatever the areas held.
   pub holds : Holds B (ourBytes B) (ourWhole B)
   unfolding Holds
-  holds r s t h ks P n l = subst (λ (o : Outcome Store). AfterCalls B (ourBytes B) (ourWhole B) o t (take n ks)) (sym (fresh-made r s t)) (after-calls t h (take n ks) (proper-take n ks (pos t) P))
+  holds r s m t h ks P n l = subst (λ (o : Outcome Store). AfterCalls B (ourBytes B) (ourWhole B) o t (take n ks)) (sym (fresh-made r s m t)) (after-calls t h (take n ks) (proper-take n ks (pos t) P))

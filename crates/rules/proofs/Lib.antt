@@ -31,5 +31,4 @@ pub mod RunPrompt
 pub mod Agreement
 pub mod Feed
 pub mod Soundness
-pub mod Faults
 pub mod Theorem

@@ -2,34 +2,34 @@
 use Prim.Native.Nat.{ℕ, _-_, _/_, _%_, _<_, _≤_}
 use mathlib.Core.Path.{_≡_, refl, sym, ap, ap₂, _∙_}
 use mathlib.Core.Bool.{true, false, not, _||_}
-use mathlib.Core.Logic.{_≢_, _⊎_}
+use mathlib.Core.Logic.{_⊎_}
 use mathlib.Core.List.{List, [], _∷_, _++_}
 use mathlib.Core.Option.{Option, none, some}
 use native.Mathlib.Omega.{arith}
 use lib.ListN.{length, length-replicate}
 use lib.Seq.{take-at}
-use lib.Dec.{eqb}
-use lib.IntN.{sucℤ, _-ℤ_}
-use borrow.Author.Tests.{eq-eqb, ne-eqb}
+use lib.Dec.{leb, ltb, eqb}
+use lib.IntN.{pos, negℤ, sucℤ, _-ℤ_}
+use lib.Signed.{leZ}
+use borrow.Author.Tests.{eq-eqb, ne-eqb, lt-ltb, le-leb}
 use Rattle.rules.specs.Account.{Kept, stored}
 use Rattle.rules.specs.Areas.{bits, half, value, digits, packet, stamp, packed, portsBelow, perPort, answersArea, Grant, nobody, bestEffort, onTime, early, elem, distinct, Store}
-use Rattle.rules.specs.Board.{Board, Kind, Horizon, Latch, Free, Idle, Mask, Delay, Routes, clock, free}
+use Rattle.rules.specs.Board.{Board, Kind, Horizon, Latch, Free, Idle, Time, Deadline, Mask, Delay, Routes, clock, free}
 use Rattle.rules.specs.Clock.{cut, plus, minus, offset}
-use Rattle.rules.specs.Entries.{StoredSound, delayOf, offsetOf}
-use Rattle.rules.specs.Questions.{sound, full}
+use Rattle.rules.specs.Questions.{full, connectionSound, horizonSound, settingsSound, listed, stackSound, slotSound, slotsSound, sound}
 use Rattle.rules.specs.Tick.{arrived, served, withdrawn, returned}
 use Rattle.rules.specs.Whole.{Held, Router, TickCall, emptied, packetBytes, outgoingBytes, answerBytes, isHeld}
 use Rattle.rules.proofs.BoardLaws.{Laws, Valid, sameKind}
 use Rattle.rules.specs.Tick as Tick
 use Rattle.rules.specs.Whole as Whole
-use Rattle.rules.proofs.Booleans.{and-both}
+use Rattle.rules.proofs.Booleans.{T→true, and-both, or-right, eq-beq}
 use Rattle.rules.proofs.Integers.{orders}
 use Rattle.rules.proofs.WholeLaws.{AllHeld, emptied-kept}
 use Rattle.rules.proofs.Grants.{Rests, grant-rests, toServe-held}
 use Rattle.rules.proofs.Good.{InWindow, HeldInWindow, Busy, Good, Input, window-more, after, arrivals-busy, serving, served-held, served-kept, served-window, window-then}
 use Rattle.rules.proofs.TimeLaws.{cut-suc, window-offset, window-delay, window-from}
 use Rattle.rules.proofs.AreaLaws.{value-digits, length-digits, length-packed, packet-perPort}
-use Rattle.rules.proofs.Soundness.{lists-sound, sound-iff}
+use Rattle.rules.proofs.IndexLaws.{all-true}
 use Rattle.rules.proofs.StateLaws.{reads-self, reads-as, reads-put, reads-off}
 use Rattle.rules.proofs.Relation.{on-settings, SettingsShown, SlotShows, Rel, with-state, rel-room, rel-settings}
 use Rattle.rules.proofs.RefineArrivals.{arrived-rel, arrived-code}
@@ -71,41 +71,43 @@ module _ (B : Board) (L : Laws B) where
 
     -- ---- the store is sound
 
-    -- A slot with a mask shows a packet: its readings are its times cut, and these are in range.
-    stored-sound : (i : ℕ) → i < 256 → get s (Mask, i) ≢ 0 → StoredSound B r i
-    stored-sound i l n = go (w .place i) refl (R .place i l)
+    -- An empty slot is sound; any other shows a packet: its readings are its times cut, and these are in range.
+    slot-sound : (i : ℕ) → i < 256 → slotSound B r i ≡ true
+    unfolding slotSound
+    slot-sound i l = go (w .place i) refl (R .place i l)
       where
-        go : (v : Option Held) → w .place i ≡ v → SlotShows B L r i v → StoredSound B r i
-        go none e h = absurd (n h)
+        go : (v : Option Held) → w .place i ≡ v → SlotShows B L r i v → slotSound B r i ≡ true
+        go none e h = rw (eq-eqb (get s (Mask, i)) 0 h)
         go (some x) e H =
             let F = G .window i l x e in
             let y = x .packet in
             let F′ : InWindow c (w .clock) (half c) y = window-more c (w .clock) (half c - 1) (half c) y (omega arith) (F .window) in
-            let ed : delayOf B s i ≡ F′ .delay = ap₂ (minus (bits c)) (H .deadline) (H .time) ∙ window-delay c (w .clock) y F′ in
-            let eo : offsetOf B s i ≡ y .time -ℤ w .clock = ap₂ (offset (bits c)) (H .time) (S .reads clock refl (omega arith)) ∙ window-offset c (w .clock) y F′ in
+            let d = minus (bits c) (get s (Deadline, i)) (get s (Time, i)) in
+            let o = offset (bits c) (get s (Time, i)) (get s clock) in
+            let ed : d ≡ F′ .delay = ap₂ (minus (bits c)) (H .deadline) (H .time) ∙ window-delay c (w .clock) y F′ in
+            let eo : o ≡ y .time -ℤ w .clock = ap₂ (offset (bits c)) (H .time) (S .reads clock refl (omega arith)) ∙ window-offset c (w .clock) y F′ in
             let soon = F .window .soon in
-            record {
-              ports = omega (arith, H .left, F .left);
-              in-range = omega (arith, ed, F′ .small);
-              not-late = record { le = rw (ed, eo) (window-from c (w .clock) y F′) };
-              not-far = record { le = rw eo (omega (arith, orders)) };
-              header = ap (stamp c) (H .bytes) ∙ stamp-bytes c y (L .some-bytes) ∙ sym (H .deadline);
-            }
+            let ports : leb (get s (Mask, i)) 31 ≡ true = le-leb (get s (Mask, i)) 31 (omega (arith, H .left, F .left)) in
+            let in-range : ltb d (half c) ≡ true = lt-ltb d (half c) (omega (arith, ed, F′ .small)) in
+            let not-late : leZ (negℤ (pos d)) o ≡ true = rw (ed, eo) (T→true (leZ (negℤ (pos (F′ .delay))) (y .time -ℤ w .clock)) (window-from c (w .clock) y F′)) in
+            let not-far : leZ o (pos (half c - 2)) ≡ true = rw eo (T→true (leZ (y .time -ℤ w .clock) (pos (half c - 2))) (omega (arith, orders))) in
+            let header = eq-eqb (stamp c (packet (r .memory) i)) (get s (Deadline, i)) (ap (stamp c) (H .bytes) ∙ stamp-bytes c y (L .some-bytes) ∙ sym (H .deadline)) in
+            or-right (eqb (get s (Mask, i)) 0) _ (and-both _ _ (and-both _ _ (and-both _ _ (and-both _ _ ports in-range) not-late) not-far) header)
 
     -- Settings and stack read as the router's, which are in range, and which have each empty place once.
     pub rel-sound : sound B r ≡ true
-    rel-sound = sound-iff B r .1 (record {
-      settings = record {
-        delays = λ i l. omega (arith, S .reads (Delay, i) refl l, G .settings .entry i l .delay);
-        masks = λ i l. omega (arith, S .reads (Routes, i) refl l, G .settings .entry i l .mask);
-        horizons = λ p l. omega (arith, S .reads (Horizon, p) refl l, G .settings .horizon p l);
-        register-1 = omega (arith, S .reads (Latch, 1) refl (omega arith), G .settings .latch .delay);
-        register-2 = omega (arith, S .reads (Latch, 2) refl (omega arith), G .settings .latch .mask);
-        register-4 = omega (arith, S .reads (Latch, 3) refl (omega arith), G .settings .ports);
-      };
-      stack = lists-sound B s (rel-room B L R (G .kept)) (ap distinct (R .stack) ∙ G .kept .once) (λ i l. ap (elem i) (R .stack) ∙ G .kept .idle i l ∙ sym (mask-held r i (w .place i) (R .place i l) (G .busy i l)));
-      stored = stored-sound;
-    })
+    unfolding sound settingsSound stackSound slotsSound
+    rel-sound =
+        let room = rel-room B L R (G .kept) in
+        let connections = all-true (connectionSound B s) 256 (λ i l. and-both _ _ (lt-ltb (get s (Delay, i)) (half c) (omega (arith, S .reads (Delay, i) refl l, G .settings .entry i l .delay))) (le-leb (get s (Routes, i)) 31 (omega (arith, S .reads (Routes, i) refl l, G .settings .entry i l .mask)))) in
+        let horizons = all-true (horizonSound B s) 5 (λ p l. lt-ltb (get s (Horizon, p)) (half c) (omega (arith, S .reads (Horizon, p) refl l, G .settings .horizon p l))) in
+        let register-1 = lt-ltb (get s (Latch, 1)) (half c) (omega (arith, S .reads (Latch, 1) refl (omega arith), G .settings .latch .delay)) in
+        let register-2 = le-leb (get s (Latch, 2)) 31 (omega (arith, S .reads (Latch, 2) refl (omega arith), G .settings .latch .mask)) in
+        let register-4 = le-leb (get s (Latch, 3)) 31 (omega (arith, S .reads (Latch, 3) refl (omega arith), G .settings .ports)) in
+        let once = ap distinct (R .stack) ∙ G .kept .once in
+        let idle = all-true (listed B s) 256 (λ i l. eq-beq _ _ (ap (elem i) (R .stack) ∙ G .kept .idle i l ∙ sym (mask-held r i (w .place i) (R .place i l) (G .busy i l)))) in
+        and-both _ _ (and-both _ _ connections (and-both _ _ horizons (and-both _ _ register-1 (and-both _ _ register-2 register-4))))
+        (and-both _ _ (and-both _ _ (le-leb (get s free) 256 room) (and-both _ _ once idle)) (all-true (slotSound B r) 256 slot-sound))
 
     -- Question 1 is passed.
     pub rel-full : full B r ≡ true

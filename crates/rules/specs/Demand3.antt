@@ -1,7 +1,7 @@
 -- Demand 3: any list of calls from a fresh router, run by both routers. Assumes nothing.
 use Prim.Native.Nat.{ℕ, _+_, _-_, _^_, _≤_, _<_}
 use mathlib.Core.Path.{_≡_}
-use mathlib.Core.Bool.{cond}
+use mathlib.Core.Bool.{true, cond}
 use mathlib.Core.List.{List, [], _∷_, map, reverse}
 use mathlib.Core.Option.{Option, none, some}
 use lib.ListN.{length, take, getD}
@@ -10,11 +10,10 @@ use lib.IntN.{pos}
 use Rattle.rules.specs.Clock.{cut}
 use Rattle.rules.specs.Areas.{Store, Reply, Outcome, bits}
 use Rattle.rules.specs.Board.{Board, Horizon, Latch, Idle, Time, Deadline, Mask, Outgoing, Delay, Routes, clock, free, board8}
-use Rattle.rules.specs.Questions.{makeFresh, controlWrite, tick as tickEntry}
+use Rattle.rules.specs.Questions.{sound, makeFresh, controlWrite, tick as tickEntry}
 use Rattle.rules.specs.Whole.{Router, Held, TickCall, Report, ticked, start}
 use Rattle.rules.specs.Calls.{Call, control, tick, afterAll, replies, wholeStep}
 use Rattle.rules.specs.Given.{Words, numberDue, AsWritten, acceptedTicks, Proper, Feedable}
-use Rattle.rules.specs.Entries.{Sized, Sound}
 use Rattle.rules.specs.Account.{NotedTick, PacketAt, stored, Accounts}
 
 -- The two routers of which the claim speaks: one over bytes, by what making it fresh and a call do; and one that never turns over, by what it is at first, what a call does, and what a tick did.
@@ -41,7 +40,7 @@ history O N past r w (k ∷ ks) =
     noted (N .report) past w k (o .reply .number) (b .reply) (history O N (k ∷ past) (b .after) (o .after) ks)
 
 module _ (B : Board) where
-  open Board B using (clockBytes as c, stateLength, get)
+  open Board B using (clockBytes as c, get)
 
   -- Ours. `makeFresh`, `controlWrite` and `tick` (Questions) are the very constants that the promises of the exported entries cite.
   unfoldable pub byteStep : Store → Call → Outcome Store
@@ -78,14 +77,14 @@ module _ (B : Board) where
     pub stack : (i : ℕ) → i < length (w .free) → get (r .state) (Idle, length (w .free) - 1 - i) ≡ getD (w .free) i 0
 
 module _ (B : Board) (O : OverBytes) (N : NeverOver) where
-  open Board B using (clockBytes as c)
+  open Board B using (clockBytes as c, stateLength)
 
   -- After the calls ks on routers fresh at the clock reading t, the one over bytes as o made it.
   pub record AfterCalls (o : Outcome Store) (t : ℕ) (ks : List Call) : Type 0 where
     pub made : o .reply .number ≡ 0
     pub numbers : map (λ (a : Reply). a .number) (replies (N .step) (N .first t) ks) ≡ map (numberDue c) ks
     pub agree : replies (O .step) (o .after) ks ≡ replies (N .step) (N .first t) ks
-    pub sound : let r = afterAll (O .step) (o .after) ks in Sized B r × Sound B r
+    pub sound : let r = afterAll (O .step) (o .after) ks in (length (r .state) ≡ stateLength) × (length (r .memory) ≡ 5120) × (sound B r ≡ true)
     pub shown : Shown B (afterAll (O .step) (o .after) ks) (afterAll (N .step) (N .first t) ks)
     pub settings : AsWritten c (reverse ks) (afterAll (N .step) (N .first t) ks)
     pub ticks : map (λ (d : NotedTick). (d .past, d .call)) (history O N [] (o .after) (N .first t) ks) ≡ acceptedTicks c [] ks
@@ -93,7 +92,7 @@ module _ (B : Board) (O : OverBytes) (N : NeverOver) where
 
   -- Made fresh in any areas of their lengths, at every clock reading, for every proper list, after each of its calls.
   unfoldable pub Holds : Type 0
-  Holds = (r : Store) → Sized B r → (t : ℕ) → t < 2 ^ bits c → (ks : List Call) → Proper c (pos t) ks → (n : ℕ) → n ≤ length ks → AfterCalls (O .first r t) t (take n ks)
+  Holds = (r : Store) → length (r .state) ≡ stateLength → length (r .memory) ≡ 5120 → (t : ℕ) → t < 2 ^ bits c → (ks : List Call) → Proper c (pos t) ks → (n : ℕ) → n ≤ length ks → AfterCalls (O .first r t) t (take n ks)
 
 -- The whole of demand 3, for document 01's board; that it is not empty, and in which words it is said.
 pub record Demand3 : Type 0 where

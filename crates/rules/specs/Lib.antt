@@ -7,6 +7,5 @@ pub mod Questions
 pub mod Whole
 pub mod Calls
 pub mod Given
-pub mod Entries
 pub mod Account
 pub mod Demand3

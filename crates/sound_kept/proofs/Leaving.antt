@@ -37,7 +37,7 @@ use Rattle.rules.proofs.Relation.{Rel, rel-free, with-state}
 use Rattle.rules.proofs.RefineArrivals.{arrived-rel, arrived-code}
 use Rattle.rules.proofs.Refine.{tick-slots, tick-entries, tick-rel}
 use Rattle.rules.proofs.RunPrompt.{arrivals-free}
-use Rattle.rules.proofs.Faults.{refused, entry-laws}
+use Rattle.sound_kept.proofs.Entries.{refused, entry-laws}
 use Rattle.sound_kept.specs.AnySound.{SoundStore, ControlLeaves, storedBy, TickLeaves, Leaves}
 use Rattle.sound_kept.proofs.Showing.{shows-rel, shows-good}
 use Rattle.sound_kept.proofs.SoundKept.{routerOf, shows-router}

@@ -1,3 +1,4 @@
+pub mod Entries
 pub mod Showing
 pub mod Taking
 pub mod SoundKept

@@ -14,7 +14,7 @@ use Rattle.rules.specs.Areas.{Store, Bytes, byte, bits, half, packet, payload, 
 use Rattle.rules.specs.Board.{Board, Horizon, Latch, Idle, Time, Deadline, Mask, Outgoing, Delay, Routes, clock, free, board8}
 use Rattle.rules.specs.Calls.{Call, control, tick, afterAll}
 use Rattle.rules.specs.Given.{clockAfter}
-use Rattle.rules.specs.Entries.{StoredSound, delayOf, offsetOf}
+use Rattle.sound_kept.specs.Entries.{StoredSound, delayOf, offsetOf}
 use Rattle.rules.specs.Clock.{cut, plus, offset}
 use Rattle.rules.specs.Demand3.{byteStep, PacketShown, PlaceShown}
 use Rattle.rules.specs.Questions.{full, sound, stack}
@@ -34,11 +34,10 @@ use Rattle.rules.proofs.TimeLaws.{cut-pos, cut-back, plus-cut, plus-minus}
 use Rattle.rules.proofs.StateLaws.{length-stack}
 use Rattle.rules.proofs.Good.{Good}
 use Rattle.rules.proofs.Relation.{Rel, rel-free}
-use Rattle.rules.proofs.Soundness.{stack-iff, sound-iff}
-use Rattle.rules.proofs.Faults.{full-iff}
+use Rattle.sound_kept.proofs.Entries.{stack-iff, sound-iff, full-iff}
 use Rattle.passes.proofs.Room.{sound-used}
 use Rattle.rules.proofs.Refine.{mask-held, rel-full, rel-sound}
-use Rattle.rules.proofs.Agreement.{start-good, fresh-rel, agreed, rel-intact}
+use Rattle.rules.proofs.Agreement.{start-good, fresh-rel, agreed}
 use Rattle.rules.proofs.Feed.{fed, feed, feed-proper}
 use Rattle.sound_kept.proofs.Showing.{rel-shows, shows-rel, shows-good}
 
@@ -224,8 +223,8 @@ module _ (B : Board) (L : Laws B) where
     fresh = λ t h. rel-shows B L (fresh-rel B L t h) (start-good c t);
     agree = λ r Q w S ks P.
         let a = agreed B L ks (shows-rel B L Q S) (shows-good B L Q S) P in
-        let (sized, sound) = rel-intact B L (a .rel) (a .good) in
-        (a .replies, sized, sound, rel-shows B L (a .rel) (a .good));
+        let S = rel-sound B L (a .rel) (a .good) in
+        (a .replies, (a .rel .settings .sized, a .rel .whole), sound-iff B (afterAll (byteStep B) r ks) .0 S, rel-shows B L (a .rel) (a .good));
   }
 
 -- The board of document 01 is lawful.

@@ -18,7 +18,6 @@ use Rattle.rules.specs.Board.{board8}
 use Rattle.rules.specs.Calls.{Call, control, tick, accept, wholeStep}
 use Rattle.rules.specs.Demand3 as D
 use Rattle.rules.specs.Demand3.{OverBytes, NeverOver, AfterCalls, Holds}
-use Rattle.rules.specs.Entries.{Sized}
 use Rattle.rules.specs.Given as G
 use Rattle.rules.specs.Order.{count}
 use Rattle.rules.specs.Whole.{Entry, Packet, refused, absent, accepted, start, arrived, served, ticked}
@@ -39,8 +38,7 @@ blank = record { state = replicate 1804 0; memory = replicate 5120 0 }
 after : (O : OverBytes) (N : NeverOver) → Holds board8 O N → (t : ℕ) → t < 256 → (ks : List Call) → isProper 1 (pos t) ks ≡ true → AfterCalls board8 O N (O .first blank t) t ks
 unfolding Holds bits
 after O N H t l ks e =
-    let sized : Sized board8 blank = (length-replicate {A = ℕ} 1804 0, length-replicate {A = ℕ} 5120 0) in
-    subst (AfterCalls board8 O N (O .first blank t) t) (take-length ks) (H blank sized t l ks (proper 1 ks (pos t) e) (length ks) (le-refl (length ks)))
+    subst (AfterCalls board8 O N (O .first blank t) t) (take-length ks) (H blank (length-replicate {A = ℕ} 1804 0) (length-replicate {A = ℕ} 5120 0) t l ks (proper 1 ks (pos t) e) (length ks) (le-refl (length ks)))
 
 -- All that a wrong router's run unfolds.
 unfoldable running : ℕ

@@ -3,19 +3,19 @@ use Prim.Native.Nat.{ℕ, _+_, _-_, _*_, _<_, _≤_}
 use mathlib.Core.Path.{_≡_}
 use mathlib.Core.Logic.{_≢_, _↔_}
 use mathlib.Core.List.{List}
-use lib.ListN.{length}
+use lib.ListN.{length, replicate}
 use lib.IntN.{ℤ, pos, negℤ}
 use lib.Signed.{_≤ℤ_}
 use Rattle.rules.specs.Clock.{minus, offset}
 use Rattle.rules.specs.Areas.{Store, bits, half, packet, stamp}
 use Rattle.rules.specs.Board.{Board, Horizon, Latch, Idle, Time, Deadline, Mask, Delay, Routes, clock, free}
 use Rattle.rules.specs.Questions.{makeFresh, controlWrite, tick as tickEntry, serviceFault}
 use Rattle.rules.specs.Whole.{TickCall}
 use Rattle.rules.specs.Calls.{control, tick}
 use Rattle.rules.specs.Given.{numberDue}
 
 module _ (B : Board) where
-  open Board B using (clockBytes as c, stateLength, get)
+  open Board B using (clockBytes as c, stateLength, get, freshState)
 
   -- ---- what is asked of a state
 
@@ -83,7 +83,8 @@ module _ (B : Board) where
 
   -- Of every entry, for any bytes and lengths: its number, and that a refused call alters nothing. The service entry adds 256 times the lowest bad slot to 15.
   pub record EntryLaws : Type 0 where
-    pub fresh : (r : Store) (t : ℕ) → let o = makeFresh B r t in (Sized r → o .reply .number ≡ 0) × ((Sized r → ⊥) → (o .reply .number ≡ 1) × (o .after ≡ r))
+    pub fresh : (r : Store) (t : ℕ) → let o = makeFresh B r t in
+        (Sized r → (o .reply .number ≡ 0) × (o .after .state ≡ freshState t) × (o .after .memory ≡ replicate 5120 0)) × ((Sized r → ⊥) → (o .reply .number ≡ 1) × (o .after ≡ r))
     pub control : (r : Store) (register v : ℕ) → let o = controlWrite B r register v in
         FaultNamed r (Sized r) (AllStoredSound r → ⊥) 15 (numberDue c (control register v)) (o .reply .number) × (o .reply .number ≢ 0 → o .after ≡ r)
     pub tick : (r : Store) (k : TickCall) (out ans : List ℕ) → let o = tickEntry B r (k .arriving) (k .bestEffort) (k .arrivals) out ans in
