@@ -1,8 +1,8 @@
 -- The board of document 01 is lawful: in its table each byte of the state has one owner, and each fresh field its value, by computed tests (TableLaws); and it is laid out as document 01 has it. Assumes nothing.
 use Prim.Native.Nat.{ℕ, zero, suc, _+_, _-_, _/_, _%_, _<_}
-use mathlib.Core.Path.{_≡_, refl, sym, _∙_}
-use mathlib.Core.Bool.{true, cond, _&&_}
-use mathlib.Core.List.{_++_}
+use mathlib.Core.Path.{_≡_, refl, sym, ap, _∙_}
+use mathlib.Core.Bool.{Bool, true, cond, _&&_}
+use mathlib.Core.List.{List, [], _∷_, _++_}
 use native.Mathlib.Decide.{decLt}
 use native.Mathlib.Omega.{arith}
 use lib.ListN.{length, List·getD-eq-default}
@@ -13,7 +13,7 @@ use Rattle.rules.specs.Board.{Horizon, Latch, Idle, Time, Deadline, Mask
 use Rattle.rules.specs.Order.{all, topFirst}
 use Rattle.rules.proofs.BoardLaws.{Laws, freshField, width}
 use Rattle.rules.proofs.FieldBytes.{get-one, get-two}
-use Rattle.rules.proofs.IndexLaws.{all-at}
+use Rattle.rules.proofs.Booleans.{and-left, and-right}
 use Rattle.rules.proofs.TableLaws.{kindOf, each, owned, lawful-table}
 
 -- Whose byte stands at offset o.
@@ -45,9 +45,24 @@ lawful8 = lawful-table 1 1804 table8 fresh8 (record { some-bytes = omega arith; 
 
 -- ---- in document 01's numbers
 
+-- What a fresh state holds from place 1 on.
+abbrev blankByte : ℕ → ℕ
+blankByte i = cond (eqb i 10) 1 (cond (leb 12 i && ltb i 268) (267 - i) 0)
+
+-- A list holds that from place i on, and so at each of its places.
+holds-from : ℕ → List ℕ → Bool
+holds-from i [] = true
+holds-from i (x ∷ l) = eqb x (blankByte i) && holds-from (suc i) l
+
+holds-at : (l : List ℕ) (i j : ℕ) → holds-from i l ≡ true → j < length l → byte l j ≡ blankByte (i + j)
+unfolding holds-from
+holds-at [] i j e h = absurd (omega arith)
+holds-at (x ∷ l) i zero e h = eqb-true x (blankByte i) (and-left (eqb x (blankByte i)) (holds-from (suc i) l) e) ∙ ap blankByte (let k : i ≡ i + 0 = omega arith in k)
+holds-at (x ∷ l) i (suc j) e h = holds-at l (suc i) j (and-right (eqb x (blankByte i)) (holds-from (suc i) l) e) (omega arith) ∙ ap blankByte (let k : suc i + j ≡ i + suc j = omega arith in k)
+
 -- A computed test over the bytes after the clock.
-fresh-bytes : all 1803 (λ i. eqb (byte fresh8 i) (cond (eqb (suc i) 10) 1 (cond (leb 12 (suc i) && ltb (suc i) 268) (267 - suc i) 0))) ≡ true
-unfolding all fresh8 topFirst
+fresh-bytes : holds-from 1 fresh8 ≡ true
+unfolding holds-from fresh8 topFirst
 fresh-bytes = refl
 
 -- Each field by its line of the table, and past the end of a fresh state nothing.
@@ -62,10 +77,10 @@ laid-out8 = record {
   fresh = fresh;
 }
   where
-    fresh : (t i : ℕ) → byte (board8 .freshState t) i ≡ cond (eqb i 0) t (cond (eqb i 10) 1 (cond (leb 12 i && ltb i 268) (267 - i) 0))
+    fresh : (t i : ℕ) → byte (board8 .freshState t) i ≡ cond (eqb i 0) t (blankByte i)
     fresh t zero = omega arith
-    fresh t (suc i) = go (decLt i 1803)
+    fresh t (suc i) = rw (ne-eqb (suc i) 0 (λ e. omega arith)) (go (decLt i 1803))
       where
-        go : Dec (i < 1803) → byte fresh8 i ≡ cond (eqb (suc i) 0) t (cond (eqb (suc i) 10) 1 (cond (leb 12 (suc i) && ltb (suc i) 268) (267 - suc i) 0))
-        go (yes l) = rw (ne-eqb (suc i) 0 (λ e. omega arith)) (eqb-true _ _ (all-at (λ i. eqb (byte fresh8 i) (cond (eqb (suc i) 10) 1 (cond (leb 12 (suc i) && ltb (suc i) 268) (267 - suc i) 0))) 1803 i fresh-bytes l))
-        go (no l) = List·getD-eq-default fresh8 0 {n = i} (let e = whole8 in omega arith) ∙ sym (rw (ne-eqb (suc i) 0 (λ e. omega arith), ne-eqb (suc i) 10 (λ e. omega arith), le-leb 12 (suc i) (omega arith), le-ltb (suc i) 268 (omega arith)))
+        go : Dec (i < 1803) → byte fresh8 i ≡ blankByte (suc i)
+        go (yes l) = holds-at fresh8 1 i fresh-bytes (let e = whole8 in omega arith) ∙ ap blankByte (let k : 1 + i ≡ suc i = omega arith in k)
+        go (no l) = List·getD-eq-default fresh8 0 {n = i} (let e = whole8 in omega arith) ∙ sym (rw (ne-eqb (suc i) 10 (λ e. omega arith), le-leb 12 (suc i) (omega arith), le-ltb (suc i) 268 (omega arith)))
