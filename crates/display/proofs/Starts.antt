@@ -27,8 +27,12 @@ module _ (s : List ℕ) (p : ℕ) where
   unfolding display
   empty e = rw e
 
+  -- Where its packet starts.
+  abbrev packetStart : ℕ
+  packetStart = 20 * p
+
   -- A part that is there lies inside the area.
-  pub inside : shown ≡ true → 20 * p + 2 + 18 ≤ length s
+  pub inside : shown ≡ true → packetStart + 2 + 18 ≤ length s
   inside e =
       let long = eqb-true (length s) outgoingLength (and-left (eqb (length s) outgoingLength) (leb p 4) e) in
       let port = leb-true p 4 (and-right (eqb (length s) outgoingLength) (leb p 4) e) in
@@ -42,10 +46,10 @@ module _ (s : List ℕ) (p : ℕ) where
   unfolding displayStart
   at-the-end e = (rw e, ap (take 18) (drop-length s) ∙ empty e)
 
-  pub at-the-data : shown ≡ true → StartsAt (20 * p + 2)
+  pub at-the-data : shown ≡ true → StartsAt (packetStart + 2)
   unfolding display displayStart payload packet
-  at-the-data e = (rw e, rw e (sym (data-part (drop (20 * p) s) ∙ rw (drop-drop 2 (20 * p) s))))
+  at-the-data e = (rw e, rw e (sym (data-part (drop packetStart s) ∙ rw (drop-drop 2 packetStart s))))
 
   -- The 18 bytes from there are the part.
-  pub data-shown : (n : ℕ) → n ≡ 20 * p + 2 → shown ≡ true → take (n + 18 - n) (drop n s) ≡ display 1 s p
+  pub data-shown : (n : ℕ) → n ≡ packetStart + 2 → shown ≡ true → take (n + 18 - n) (drop n s) ≡ display 1 s p
   data-shown n h e = let k : n + 18 - n ≡ 18 = omega arith in rw (k, h) (at-the-data e .1)
