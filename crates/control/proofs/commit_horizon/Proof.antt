@@ -1,12 +1,15 @@
 -- `control::commit_horizon` meets its contract. The loop's invariant: the state has the horizon for the ports of the mask below `port`. The measure
 -- is what is left of five. Assumes nothing.
-use Prim.Native.Nat.{_-_, _≤_}
+use Prim.Native.Nat.{ℕ, _+_, _-_, _≤_}
+use mathlib.Core.Bool.{Bool, true, false, cond}
+use mathlib.Core.List.{List}
 use mathlib.Core.Logic.{⊎-elim}
 use mathlib.Core.Path.{_≡_, refl, sym, ap, _∙_}
 use native.Mathlib.Numerals.{add-one}
 use native.Mathlib.Omega.{arith}
 use lib.ListN.{length}
-use Rattle.rules.specs.Board.{board8}
+use Rattle.rules.specs.Areas.{has}
+use Rattle.rules.specs.Board.{Horizon, board8}
 use Rattle.rules.specs.Questions.{commitHorizon}
 use Rattle.control.specs.declared.Latch.{Latch}
 use borrow.Author.Needs.{needs}
@@ -23,14 +26,18 @@ loop-holds : tie.Need-loop-holds Inv-loop μ-loop
 unfolding commitHorizon
 loop-holds c = (search needs, refl, refl)
 
-loop-again : tie.Need-loop-again Inv-loop μ-loop
+-- One port more, which the mask has or hasn't.
+next-port : (port mask horizon : ℕ) (s₀ s s′ : List ℕ) (t : Bool) → s ≡ commitHorizon board8 port mask horizon s₀ → has mask port ≡ t → s′ ≡ cond t (board8 .put s (Horizon, port) horizon) s → s′ ≡ commitHorizon board8 (port + 1) mask horizon s₀
 unfolding commitHorizon
+next-port port mask horizon s₀ s s′ t inv is e = rw (add-one port, is, ← inv) e
+
+loop-again : tie.Need-loop-again Inv-loop μ-loop
 loop-again c =
     let l = c .before .before .before .loop in
     let is = c .before .has-port .ensures in
     ⊎-elim
-    (λ w. (search needs, search needs, rw (add-one (l .port), ← l .inv .2, sym is ∙ w .0 .taken) (cc)))
-    (λ w. (search needs, search needs, rw (add-one (l .port), ← l .inv .2, sym is ∙ w .0 .left) (cc)))
+    (λ w. (search needs, search needs, next-port (l .port) _ _ _ (l .state) _ true (l .inv .2) (sym is ∙ w .0 .taken) (w .5 ∙ w .2 .ensures)))
+    (λ w. (search needs, search needs, next-port (l .port) _ _ _ (l .state) _ false (l .inv .2) (sym is ∙ w .0 .left) (w .1)))
     (c .if1 .came)
 
 returns : tie.Need-returns Inv-loop μ-loop
