@@ -1,3 +1,4 @@
+pub mod BenchUnaltered
 pub mod ListLaws
 pub mod BeforeLaws
 pub mod ChoiceLaws

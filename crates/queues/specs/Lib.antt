@@ -1,4 +1,5 @@
 pub mod Table1
 pub mod Area
 pub mod Engine
+pub mod BenchUnaltered
 pub mod QueuesAgree
