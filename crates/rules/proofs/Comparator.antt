@@ -8,7 +8,7 @@ use lib.IntN.{ℤ, pos, _-ℤ_}
 use lib.Signed.{ltZ}
 use Rattle.rules.specs.Areas.{bits, half}
 use Rattle.rules.specs.Board.{Board, Time, Deadline, clock}
-use Rattle.rules.specs.Clock.{cut}
+use Rattle.rules.specs.Clock.{cut, minus}
 use Rattle.rules.specs.Order.{by, then, Key, comparator}
 use Rattle.rules.specs.Tick.{isEarly, slotKeyOf, slotKey}
 use Rattle.rules.specs.Whole.{Packet, packetKeyOf, packetKey}
@@ -49,6 +49,10 @@ module _ (B : Board) where
       sort : isEarly B s i ≡ ltZ t (x .time)
       sort = rw (et, eu) (ap (ltZ (pos 0)) (window-offset c t x F) ∙ diff-gt (x .time) t)
 
+      -- The slot's own deadline tells the packet's.
+      deadline : pos (minus (bits c) (get s (Deadline, i)) (cut (bits c) t)) ≡ x .deadline -ℤ t
+      deadline = ap (λ (d : ℕ). pos (minus (bits c) d (cut (bits c) t))) ed ∙ window-deadline c t x F
+
       go : (e : Bool) → ltZ t (x .time) ≡ e → slotKeyOf B e s i ≡ lessClock t (packetKeyOf e x)
-      go true q = rw (et, eu, ed) (ap₂ (λ (k l : ℤ). record { early = true; key = k; second = l }) (window-early c t x F (true→T (ltZ t (x .time)) q)) (window-deadline c t x F))
-      go false q = rw (et, eu, ed) (ap₂ (λ (k l : ℤ). record { early = false; key = k; second = l }) (window-deadline c t x F) (window-offset c t x F))
+      go true q = rw (et, eu) (ap₂ (λ (k l : ℤ). record { early = true; key = k; second = l }) (window-early c t x F (true→T (ltZ t (x .time)) q)) deadline)
+      go false q = rw (et, eu) (ap₂ (λ (k l : ℤ). record { early = false; key = k; second = l }) deadline (window-offset c t x F))

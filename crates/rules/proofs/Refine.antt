@@ -77,7 +77,7 @@ module _ (B : Board) (L : Laws B) where
     slot-sound i l = go (w .place i) refl (R .place i l)
       where
         go : (v : Option Held) → w .place i ≡ v → SlotShows B L r i v → slotSound B r i ≡ true
-        go none e h = rw (eq-eqb (get s (Mask, i)) 0 h)
+        go none e h = rw h refl
         go (some x) e H =
             let F = G .window i l x e in
             let y = x .packet in

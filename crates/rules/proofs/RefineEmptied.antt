@@ -71,7 +71,7 @@ module _ (B : Board) (L : Laws B) where
   module _ {t : Kind → Bool} {s : List ℕ} {σ : Field → ℕ} (R : Reads B L t s σ) (i : ℕ) (room : get s free < 256) where
     -- No other field changes.
     push-reads : t Free ≡ true → t Idle ≡ true → Reads B L t (giveBack B i s) σ
-    push-reads h₃ h₄ = reads-off B L (reads-off B L R (Idle, get s free) i room h₄) free (get s free + 1) (omega arith) h₃
+    push-reads h₃ h₄ = reads-off B L (reads-off B L R (Idle, get s free) i room h₄) free _ (omega arith) h₃
 
     -- Two stores, read back.
     pushed : let n = get s free in Reads B L none-out (giveBack B i s) (λ f. cond (sameField free f) (n + 1) (cond (sameField (Idle, n) f) i (get s f)))

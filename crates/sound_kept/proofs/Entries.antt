@@ -265,7 +265,7 @@ module _ (B : Board) where
       let parts = and-iff (eqb (length (r .state)) stateLength) (eqb (length (r .memory)) 5120) in
       (λ e. (eqb-true _ _ (parts .0 e .0), eqb-true _ _ (parts .0 e .1)), λ x. parts .1 (eq-eqb _ _ (x .0), eq-eqb _ _ (x .1)))
 
-  areas-iff : (r : Store) (area out ans : List ℕ) → ((full B r && areasFull area out ans) ≡ true) ↔ (Sized B r × (length area ≡ 100) × (length out ≡ 100) × (length ans ≡ 20))
+  pub areas-iff : (r : Store) (area out ans : List ℕ) → ((full B r && areasFull area out ans) ≡ true) ↔ (Sized B r × (length area ≡ 100) × (length out ≡ 100) × (length ans ≡ 20))
   unfolding areasFull
   areas-iff r area out ans =
       let a = eqb (length area) 100 in

@@ -22,11 +22,12 @@ use Rattle.rules.specs.Given as G
 use Rattle.rules.specs.Order.{count}
 use Rattle.rules.specs.Whole.{Entry, Packet, refused, absent, accepted, start, arrived, served, ticked}
 use Rattle.rules.proofs.Booleans.{cons-first, cons-rest}
+use Rattle.rules.proofs.Theorem.{demand3}
 use Rattle.cases.proofs.Computing.{computing}
 use Rattle.cases.proofs.Proper.{isProper, proper}
 use Rattle.wrong.specs.Routers as W
 use Rattle.wrong.specs.Lists as L
-use Rattle.wrong.specs.ShutOut.{OwnParts, Refuted, ShutOut}
+use Rattle.wrong.specs.ShutOut.{OwnParts, RepliesAsOurs, Refuted, ShutOut}
 
 -- ---- the claim after a list
 
@@ -60,6 +61,13 @@ pub own-parts : OwnParts
 unfolding OwnParts running wholeStep accept ticked arrived served
 own-parts r (control register v) = refl
 own-parts r (tick k out ans) = refl
+
+-- Both replies are those of our router that never turns over.
+pub replies-as-ours : RepliesAsOurs
+unfolding RepliesAsOurs Holds bits
+replies-as-ours O H r s m t l ks P =
+    let whole : (O : OverBytes) → Holds board8 O (D.ourWhole board8) → AfterCalls board8 O (D.ourWhole board8) (O .first r t) t ks = λ O H. subst (AfterCalls board8 O (D.ourWhole board8) (O .first r t) t) (take-length ks) (H r s m t l ks P (length ks) (le-refl (length ks))) in
+    whole O H .agree ∙ sym (whole (D.ourBytes board8) (demand3 .holds) .agree)
 
 -- 1 is due, and no packet is accepted.
 pub refuses-all : (q : ℕ) → Refuted (W.refusesAll q)
@@ -192,6 +200,22 @@ sends-higher-place O H =
     higher (inr (e, inl l)) = l .lt
     higher (inr (e, inr (f, l))) = omega arith
 
+-- The packet of connection 1 waits with the time 5, and that of time 10 is sent.
+pub ties-by-place : Refuted W.tiesByPlace
+unfolding running W.oneKey L.waited
+ties-by-place O H =
+    let P = after O W.tiesByPlace H 10 (omega arith) L.waited refl .accounts .prompt [] [] _ refl 0 (omega arith) in
+    let (j, y, g, n) = P .on-time _ _ (record { accepted = (_, 1, List·Memᴰ·head refl, omega arith, refl, refl); port = refl; unsent = refl; in-time = record { le = tt } }) (record { le = tt }) in
+    later (sent-is g) refl refl n
+  where
+    earlier : {a b : ℤ} {i j : ℕ} → a ≡ pos 20 → b ≡ pos 10 → NoLater (a, b, j) (pos 20, pos 5, i) → ⊥
+    earlier d t (inl l) = subst (λ (z : ℤ). T (ltZ z (pos 20))) d (l .lt)
+    earlier d t (inr (e, inl l)) = subst (λ (z : ℤ). T (ltZ z (pos 5))) t (l .lt)
+    earlier d t (inr (e, inr (f, l))) = let z : _≡_ {A = ℕ} 10 5 = cc in omega arith
+
+    later : {v w : ℕ × Packet} {i : ℕ} → w ≡ v → v .1 .deadline ≡ pos 20 → v .1 .time ≡ pos 10 → NoLater (w .1 .deadline, w .1 .time, w .0) (pos 20, pos 5, i) → ⊥
+    later e d t n = earlier (ap (λ (w : ℕ × Packet). w .1 .deadline) e ∙ d) (ap (λ (w : ℕ × Packet). w .1 .time) e ∙ t) n
+
 -- One packet was accepted, and the place that it was sent from stands second in the free list, behind 1.
 pub gives-back-under : Refuted W.givesBackUnder
 unfolding running W.emptiedUnder W.under L.onTime
@@ -226,5 +250,6 @@ shut-out = record {
   exchanges-codes = exchanges-codes;
   sends-nines = sends-nines;
   gives-back-under = gives-back-under;
+  ties-by-place = ties-by-place;
   sends-higher-place = sends-higher-place;
 }

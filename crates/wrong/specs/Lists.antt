@@ -1,7 +1,9 @@
 -- The short lists of calls on which the wrong routers break the claim. Assumes nothing.
 use Prim.Native.Nat.{ℕ}
+use mathlib.Core.Bool.{cond}
 use mathlib.Core.List.{List, [], _∷_, _++_}
 use lib.ListN.{replicate}
+use lib.Dec.{eqb}
 use lib.IntN.{pos}
 use Rattle.rules.specs.Whole.{TickCall}
 use Rattle.rules.specs.Calls.{Call, control}
@@ -50,6 +52,10 @@ halfATurnBack = connect 0 9 40 1 (lent (one 72 0) ∷ [])
 -- Connections 0 and 1 go out as 0 and 1 on port 0, with d = 10 and d = 40; both packets come a tick before their time; then connection 1 gets d = 0, and a tick brings nothing.
 unfoldable pub delayChanged : List Call
 delayChanged = connect 0 0 10 1 (connect 1 1 40 1 (lent (two 1) ∷ connect 1 1 0 1 (lent none ∷ [])))
+
+-- At the clock 10 two packets come on time with the deadline 20: that of connection 0 has the time 10, that of connection 1 the time 5.
+unfoldable pub waited : List Call
+waited = connect 0 0 10 1 (connect 1 1 15 1 (lent (record { arriving = 3; bestEffort = 0; arrivals = plain 0 10 ++ plain 1 5 ++ replicate 60 0; times = λ p. cond (eqb p 0) (pos 10) (pos 5) }) ∷ []))
 
 -- Both have one time and one deadline.
 unfoldable pub alike : List Call

@@ -8,7 +8,7 @@ use lib.Dec.{ltb, eqb}
 use lib.IntN.{ℤ, pos, negℤ, _+ℤ_, _-ℤ_}
 use lib.Signed.{leZ, ltZ}
 use Rattle.rules.specs.Clock.{cut}
-use Rattle.rules.specs.Order.{by, Key, comparator, least}
+use Rattle.rules.specs.Order.{Order, by, then, Key, onTimeFirst, comparator, least}
 use Rattle.rules.specs.Areas.{Outcome, numberReply, packet, has, perPort, noPacket, answersArea, Grant, nobody, bestEffort, onTime, early}
 use Rattle.rules.specs.Whole.{Packet, Held, Router, TickCall, Arrival, absent, refused, accepted, Report, Ticked, put, withPlaces, start, written, admitted, toServe, packetKey, packetKeyOf, granted, grant, sent, isDue, due, withdrawn, remaining, isHeld, emptied, advanced, arrival, meets, packetBytes, outgoingBytes, arrivalCode, answerBytes}
 use Rattle.rules.specs.Calls.{Call, control, tick, refusal, refuse, wholeStep}
@@ -200,6 +200,13 @@ emptiedUnder T (suc i) r =
 
 abbrev pub givesBackUnder : NeverOver
 givesBackUnder = built written (meets 1) grant sent (λ T r. emptiedUnder T 256 r) leaves sends answerBytes
+
+-- Letting the place decide among equal keys, whoever has waited (document 02, [4]).
+unfoldable pub oneKey : Order Key
+oneKey = then (by (λ k. k .early) onTimeFirst) (by (λ k. k .key) ltZ)
+
+abbrev pub tiesByPlace : NeverOver
+tiesByPlace = built written (meets 1) (λ r b p. granted (least (by (packetKey (r .clock)) oneKey) (λ i. toServe (r .place i) p) 256) (has b p) (r .clock) (r .horizon p)) sent ends leaves sends answerBytes
 
 -- Letting the higher place go first among equal times.
 abbrev pub sendsHigherPlace : NeverOver
