@@ -25,7 +25,7 @@ use Rattle.rules.proofs.Integers.{ltb-iff}
 use Rattle.rules.proofs.Masks.{has-zero}
 use Rattle.rules.proofs.Offsets.{raised-order}
 use Rattle.passes.specs.Ports.{EachPort, changed}
-use Rattle.passes.specs.Ranks.{lesser, turn, firstDigit, secondDigit, keyDigitsOf, keyDigits, slotRank, earlyRanks, noRank, rankOf, best, bound}
+use Rattle.passes.specs.Ranks.{lesser, turn, firstDigit, secondDigit, keyDigitsOf, keyDigits, slotRank, noRank, rankOf, best}
 use Rattle.passes.proofs.MaskPorts.{has-low}
 
 -- ---- numbers of two digits
@@ -76,6 +76,14 @@ three-digits n e d a b k l ha hb hk hl =
     go true false = refl
     go false true = refl
     go false false = refl
+
+module _ (B : Board) where
+  -- Where the early ranks begin; and below what a port sends them: b where best-effort waits, h the horizon.
+  abbrev pub earlyRanks : ℕ
+  earlyRanks = turn B * turn B * 256
+
+  abbrev pub bound : Bool → ℕ → ℕ
+  bound b h = cond b earlyRanks (earlyRanks + (h + 1) * (turn B * 256))
 
 module _ (B : Board) where
   open Board B using (clockBytes as c, get)

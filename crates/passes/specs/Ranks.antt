@@ -39,10 +39,7 @@ module _ (B : Board) where
   abbrev pub slotRank : List ℕ → ℕ → ℕ
   slotRank s i = keyDigits s i * 256 + i
 
-  -- Where the early ranks begin, and what is above all ranks.
-  abbrev pub earlyRanks : ℕ
-  earlyRanks = turn * turn * 256
-
+  -- What is above all ranks.
   abbrev pub noRank : ℕ
   noRank = 2 * turn * turn * 256
 
@@ -54,7 +51,3 @@ module _ (B : Board) where
   -- The least rank for port p of the slots below i.
   unfoldable pub best : List ℕ → ℕ → ℕ → ℕ
   best s i p = rankOf s (least comparator (candidate B s p) i)
-
-  -- A port sends the early ranks below this: b where best-effort waits, h the horizon.
-  abbrev pub bound : Bool → ℕ → ℕ
-  bound b h = cond b earlyRanks (earlyRanks + (h + 1) * (turn * 256))

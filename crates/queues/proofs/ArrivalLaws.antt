@@ -28,7 +28,7 @@ use Rattle.rules.proofs.IndexLaws.{count-change, counted-true, counted-false}
 use Rattle.rules.proofs.Soundness.{elem-at, at-elem}
 use Rattle.rules.proofs.Good.{Good}
 use Rattle.rules.proofs.Relation.{Untouched, Rel}
-use Rattle.sound_kept.proofs.Taking.{Taken, stack-sound, addresses, arrivals-taken}
+use Rattle.any_state.proofs.Taking.{Taken, stack-sound, addresses, arrivals-taken}
 use Rattle.passes.proofs.Counting.{count-at-most}
 use Rattle.queues.specs.Table1.{before, waits, Lists, Holds}
 use Rattle.queues.specs.Area.{queuesLength, queueAt, queue, size, inQueue}

@@ -9,7 +9,7 @@ use lib.Dec.{eqb}
 use Rattle.rules.specs.Areas.{Outcome, asked}
 use Rattle.rules.specs.Board.{Board, board8}
 use Rattle.rules.specs.Questions.{full, soundQuestions, controlRefusal, tickRefusal}
-use Rattle.sound_kept.proofs.Entries.{refused}
+use Rattle.any_state.proofs.Entries.{refused}
 use Rattle.queues.specs.Engine as Engine
 use Rattle.queues.specs.Area.{queuesLength}
 use Rattle.queues.specs.Engine.{Bench, questions}

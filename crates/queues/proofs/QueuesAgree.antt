@@ -36,9 +36,9 @@ use Rattle.passes.specs.Sends.{Winner, sentBy}
 use Rattle.passes.proofs.Packets.{length-won}
 use Rattle.passes.proofs.Sends.{granted-wins, granted-served, granted-ports}
 use Rattle.rules.proofs.Soundness.{sound-asked}
-use Rattle.sound_kept.proofs.Showing.{shows-rel, shows-good}
-use Rattle.sound_kept.proofs.SoundKept.{routerOf, sound-store, shows-router, fed-bytes}
-use Rattle.sound_kept.specs.AnySound.{SoundStore, Shows}
+use Rattle.any_state.proofs.Showing.{shows-rel, shows-good}
+use Rattle.any_state.proofs.SoundKept.{routerOf, sound-store, shows-router, fed-bytes}
+use Rattle.any_state.specs.AnySound.{SoundStore, Shows}
 use Rattle.queues.specs.Table1.{Holds}
 use Rattle.queues.specs.Area.{queuesLength, queue}
 use Rattle.queues.specs.Engine.{Bench, eachPort, sentFrom, received, queueGrant, dueFrom, moveOver, arrivedBench, tickedBy, ticked}

@@ -7,8 +7,8 @@ use mathlib.Core.List.{List}
 use Rattle.rules.specs.Areas.{Store, areasFull}
 use Rattle.rules.specs.Board.{Board, board8}
 use Rattle.rules.specs.Questions.{full, settingsSound, stackSound, slotsSound, lowestBad}
-use Rattle.sound_kept.specs.Entries.{SettingsSound, StackSound, Sound, FaultNamed}
-use Rattle.sound_kept.proofs.Entries.{settings-iff, stack-iff, slots-iff, full-iff, areas-iff, lowest-bad, entries}
+use Rattle.any_state.specs.Entries.{SettingsSound, StackSound, Sound, FaultNamed}
+use Rattle.any_state.proofs.Entries.{settings-iff, stack-iff, slots-iff, full-iff, areas-iff, lowest-bad, entries}
 use Rattle.wrong.specs.ShutOut.{NumbersFixed}
 
 -- What a test that fails decides doesn't hold.

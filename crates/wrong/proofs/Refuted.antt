@@ -26,7 +26,7 @@ use Rattle.rules.proofs.Theorem.{demand3}
 use Rattle.cases.proofs.Computing.{computing}
 use Rattle.cases.proofs.Proper.{isProper, proper}
 use Rattle.wrong.specs.Routers as W
-use Rattle.wrong.specs.Lists as L
+use Rattle.wrong.proofs.Lists as L
 use Rattle.wrong.specs.ShutOut.{OwnParts, RepliesAsOurs, Refuted, ShutOut}
 
 -- ---- the claim after a list

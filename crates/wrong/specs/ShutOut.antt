@@ -11,7 +11,7 @@ use Rattle.rules.specs.Whole.{Router, TickCall, written, meets, grant, sent, an
 use Rattle.rules.specs.Calls.{Call, control, tick, replies, wholeStep}
 use Rattle.rules.specs.Given.{numberDue, Proper}
 use Rattle.rules.specs.Demand3.{OverBytes, NeverOver, byteStep, ourWhole, Holds}
-use Rattle.sound_kept.specs.Entries.{Sized, AllStoredSound, LowestBad, FaultNamed}
+use Rattle.any_state.specs.Entries.{Sized, AllStoredSound, LowestBad, FaultNamed}
 use Rattle.wrong.specs.Routers.{stepBy, ends, leaves, sends, refusesAll, idles, movesTheClock, pretends, withdrawsAll, comparesPlainly, passesBestEffort, freesAfterFirst, takesTableDelay, readsMinus128Early, ignoresWrites, keepsIdentifier, refusesTicks, exchangesCodes, sendsNines, givesBackUnder, tiesByPlace, sendsHigherPlace}
 
 -- Built of our own parts a router is ours, so that each wrong one is ours but for the part changed.

@@ -5,7 +5,7 @@ use native.Mathlib.Omega.{arith}
 use borrow.Author.Needs.{needs}
 use Rattle.rules.specs.Areas.{Store}
 use Rattle.rules.specs.Board.{board8}
-use Rattle.sound_kept.proofs.Entries.{storeNumber, lowest-bad, service-same, service-adds}
+use Rattle.any_state.proofs.Entries.{storeNumber, lowest-bad, service-same, service-adds}
 use Rattle.passes.specs.Stores.{store}
 use Rattle.questions.proofs.Passed.{full-lengths}
 use Rattle.service.proofs.router_fault.Statement.{statement}

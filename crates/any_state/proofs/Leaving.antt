@@ -37,11 +37,11 @@ use Rattle.rules.proofs.Relation.{Rel, rel-free, with-state}
 use Rattle.rules.proofs.RefineArrivals.{arrived-rel, arrived-code}
 use Rattle.rules.proofs.Refine.{tick-slots, tick-entries, tick-rel}
 use Rattle.rules.proofs.RunPrompt.{arrivals-free}
-use Rattle.sound_kept.proofs.Entries.{refused, entry-laws}
-use Rattle.sound_kept.specs.AnySound.{SoundStore, ControlLeaves, storedBy, TickLeaves, Leaves}
-use Rattle.sound_kept.proofs.Showing.{shows-rel, shows-good}
-use Rattle.sound_kept.proofs.SoundKept.{routerOf, shows-router}
-use Rattle.sound_kept.proofs.Taking.{Taken, arrivals-taken}
+use Rattle.any_state.proofs.Entries.{refused, entry-laws}
+use Rattle.any_state.specs.AnySound.{SoundStore, ControlLeaves, storedBy, TickLeaves, Leaves}
+use Rattle.any_state.proofs.Showing.{shows-rel, shows-good}
+use Rattle.any_state.proofs.SoundKept.{routerOf, shows-router}
+use Rattle.any_state.proofs.Taking.{Taken, arrivals-taken}
 
 -- Only masks.
 abbrev masks : Kind → Bool

@@ -17,7 +17,7 @@ use Rattle.rules.specs.Areas.{Store, Bytes, byte, bits, half, packet, stamp, pa
 use Rattle.rules.specs.Board.{Board, Idle, Time, Deadline, Mask, clock, free}
 use Rattle.rules.specs.Clock.{cut, minus, offset}
 use Rattle.rules.specs.Demand3.{PacketShown, PlaceShown}
-use Rattle.sound_kept.specs.Entries.{delayOf, offsetOf, StoredSound}
+use Rattle.any_state.specs.Entries.{delayOf, offsetOf, StoredSound}
 use Rattle.rules.specs.Questions.{stack}
 use Rattle.rules.specs.Whole.{Packet, Held, Router, packetBytes}
 use Rattle.rules.proofs.AreaLaws.{length-packet, length-payload, packed-parts, bytes-part}
@@ -31,10 +31,10 @@ use Rattle.rules.proofs.Integers.{up, down, orders, add-nat, neg-nat, diff-nat}
 use Rattle.rules.proofs.Refine.{mask-held}
 use Rattle.rules.proofs.Relation.{on-settings, shown, SlotShows, Rel}
 use Rattle.rules.proofs.Soundness.{at-elem, stack-lists}
-use Rattle.sound_kept.proofs.Entries.{stack-iff}
+use Rattle.any_state.proofs.Entries.{stack-iff}
 use Rattle.rules.proofs.StateLaws.{reads-self, reads-as, length-stack}
 use Rattle.rules.proofs.TimeLaws.{half-pos, offset-difference}
-use Rattle.sound_kept.specs.AnySound.{SoundStore, Near, Shows}
+use Rattle.any_state.specs.AnySound.{SoundStore, Near, Shows}
 
 -- Bytes where a packet has them are the packet's, packed.
 packet-back : (c : ℕ) (area : List ℕ) (i : ℕ) (x : Packet) → c < 20 → Bytes area → 20 * i + 20 ≤ length area → length (x .payload) ≡ 19 - c → PacketAt c area i x → packet area i ≡ packetBytes c x

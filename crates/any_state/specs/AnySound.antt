@@ -16,7 +16,7 @@ use Rattle.rules.specs.Whole.{Router, Packet, Held, TickCall, start}
 use Rattle.rules.specs.Calls.{Call, control, tick, afterAll, replies, wholeStep}
 use Rattle.rules.specs.Given.{Proper}
 use Rattle.rules.specs.Questions.{fresh}
-use Rattle.sound_kept.specs.Entries.{Sized, Sound}
+use Rattle.any_state.specs.Entries.{Sized, Sound}
 use Rattle.rules.specs.Demand3.{byteStep, Shown}
 
 -- How many packets a tick stored, by its answers.

@@ -24,7 +24,7 @@ use Rattle.rules.proofs.GivenLaws.{number-due}
 use Rattle.rules.proofs.IndexLaws.{all-at, all-true, FirstFailing, first-failing, all-first-failing}
 use Rattle.rules.proofs.OrderLaws.{fails}
 use Rattle.rules.proofs.Soundness.{elem-at, at-elem, stack-lists}
-use Rattle.sound_kept.specs.Entries.{Sized, SettingsSound, StackSound, delayOf, offsetOf, StoredSound, AllStoredSound, Sound, LowestBad, FaultNamed, EntryLaws}
+use Rattle.any_state.specs.Entries.{Sized, SettingsSound, StackSound, delayOf, offsetOf, StoredSound, AllStoredSound, Sound, LowestBad, FaultNamed, EntryLaws}
 
 -- ---- the list f (n - 1), .., f 0
 

@@ -14,13 +14,13 @@ use Rattle.rules.specs.Areas.{Store, Bytes, byte, bits, half, packet, payload, 
 use Rattle.rules.specs.Board.{Board, Horizon, Latch, Idle, Time, Deadline, Mask, Outgoing, Delay, Routes, clock, free, board8}
 use Rattle.rules.specs.Calls.{Call, control, tick, afterAll}
 use Rattle.rules.specs.Given.{clockAfter}
-use Rattle.sound_kept.specs.Entries.{StoredSound, delayOf, offsetOf}
+use Rattle.any_state.specs.Entries.{StoredSound, delayOf, offsetOf}
 use Rattle.rules.specs.Clock.{cut, plus, offset}
 use Rattle.rules.specs.Demand3.{byteStep, PacketShown, PlaceShown}
 use Rattle.rules.specs.Questions.{full, sound, stack}
 use Rattle.rules.specs.Whole.{Packet, Held, Router, isHeld}
-use Rattle.sound_kept.specs.SoundKept.{Intact, SoundKept}
-use Rattle.sound_kept.specs.AnySound.{SoundStore, Near, Shows, AgreesFromSound}
+use Rattle.any_state.specs.SoundKept.{Intact, SoundKept}
+use Rattle.any_state.specs.AnySound.{SoundStore, Near, Shows, AgreesFromSound}
 use Rattle.passes.specs.Room.{occupied}
 use Rattle.rules.proofs.BoardLaws.{Laws}
 use Rattle.rules.proofs.Board8Laws.{lawful8}
@@ -34,12 +34,12 @@ use Rattle.rules.proofs.TimeLaws.{cut-pos, cut-back, plus-cut, plus-minus}
 use Rattle.rules.proofs.StateLaws.{length-stack}
 use Rattle.rules.proofs.Good.{Good}
 use Rattle.rules.proofs.Relation.{Rel, rel-free}
-use Rattle.sound_kept.proofs.Entries.{stack-iff, sound-iff, full-iff}
+use Rattle.any_state.proofs.Entries.{stack-iff, sound-iff, full-iff}
 use Rattle.passes.proofs.Room.{sound-used}
 use Rattle.rules.proofs.Refine.{mask-held, rel-full, rel-sound}
 use Rattle.rules.proofs.Agreement.{start-good, fresh-rel, agreed}
 use Rattle.rules.proofs.Feed.{fed, feed, feed-proper}
-use Rattle.sound_kept.proofs.Showing.{rel-shows, shows-rel, shows-good}
+use Rattle.any_state.proofs.Showing.{rel-shows, shows-rel, shows-good}
 
 module _ (B : Board) (L : Laws B) where
   open Board B using (clockBytes as c, stateLength, get)

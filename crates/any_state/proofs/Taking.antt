@@ -11,7 +11,7 @@ use borrow.Author.Tests.{eq-eqb, ne-eqb}
 use Rattle.rules.specs.Areas.{Store, byte, bits, packet, stamp, payload, packed, elem}
 use Rattle.rules.specs.Board.{Board, Idle, Time, Deadline, Mask, Outgoing, Delay, Routes, clock, free}
 use Rattle.rules.specs.Clock.{plus}
-use Rattle.sound_kept.specs.Entries.{StackSound}
+use Rattle.any_state.specs.Entries.{StackSound}
 use Rattle.rules.specs.Questions.{stack}
 use Rattle.rules.specs.Tick.{arrival, placed, admitted, arrived}
 use Rattle.rules.specs.Whole.{Router}
@@ -21,7 +21,7 @@ use Rattle.rules.proofs.Good.{Good}
 use Rattle.rules.proofs.Refine.{rel-sound}
 use Rattle.rules.proofs.Relation.{Untouched, Rel}
 use Rattle.rules.proofs.Soundness.{elem-at}
-use Rattle.sound_kept.proofs.Entries.{sound-iff}
+use Rattle.any_state.proofs.Entries.{sound-iff}
 use Rattle.rules.proofs.StateLaws.{Reads, none-out, reads-self, reads-put}
 use Rattle.passes.proofs.Arrivals.{stored-has-free}
 
