@@ -14,7 +14,7 @@ use borrow.Author.Tests.{eq-eqb, ne-eqb, eqb-true, lt-ltb, ltb-true, le-leb, leb
 use Rattle.rules.specs.Order.{all, firstFailing, topFirst}
 use Rattle.rules.specs.Areas.{Store, Outcome, numberReply, areasFull, half, packet, stamp, elem, distinct, asked, fits, controlQuestions, tickQuestions}
 use Rattle.rules.specs.Board.{Board, Latch, Idle, Deadline, Mask, Delay, Routes, free, board8}
-use Rattle.rules.specs.Calls.{Call, control, tick, refusal}
+use Rattle.rules.specs.Calls.{control, tick, refusal}
 use Rattle.rules.specs.Given.{numberDue}
 use Rattle.rules.specs.Questions.{full, connectionSound, horizonSound, settingsSound, stack, listed, stackSound, slotSound, slotsSound, sound, soundQuestions, controlRefusal, tickRefusal, written, fresh, makeFresh, controlWrite, tick as tickEntry, lowestBad, serviceFault}
 use Rattle.rules.specs.Tick.{ticked}

@@ -1,8 +1,8 @@
 -- What an accepted call leaves as it was: it stores nothing else. Assumes nothing.
-use Prim.Native.Nat.{ℕ, zero, suc, _+_, _-_, _*_, _<_, _≤_}
+use Prim.Native.Nat.{ℕ, zero, suc, _+_, _*_, _<_, _≤_}
 use mathlib.Core.Path.{_≡_, refl, sym, ap, subst, _∙_}
-use mathlib.Core.Bool.{Bool, true, false, cond, _&&_, and-false}
-use mathlib.Core.Logic.{_≢_, _⊎_, inl, inr, ⊎-elim}
+use mathlib.Core.Bool.{Bool, true, false, cond, and-false}
+use mathlib.Core.Logic.{_≢_, inl, inr, ⊎-elim}
 use mathlib.Core.List.{List, [], _∷_}
 use mathlib.Core.Option.{Option, none, some}
 use native.Mathlib.Omega.{arith}
@@ -17,7 +17,7 @@ use Rattle.rules.specs.Board.{Board, Kind, Field, Clock, Horizon, Latch, Free, 
 use Rattle.rules.specs.Calls.{control, tick, refusal}
 use Rattle.rules.specs.Given.{numberDue}
 use Rattle.rules.specs.Demand3.{byteStep}
-use Rattle.rules.specs.Order.{Key, comparator, least, count}
+use Rattle.rules.specs.Order.{Key, comparator, least}
 use Rattle.rules.specs.Questions.{controlRefusal, tickRefusal, written, commitEntry, commitHorizon}
 use Rattle.rules.specs.Questions as Entry
 use Rattle.rules.specs.Tick.{granted, candidate, grant, sent, served, arrived, arrival, withdrawn, withdrawals, returned, ticked}
@@ -36,7 +36,7 @@ use Rattle.rules.proofs.Good.{Good, Input, after, ended-frame}
 use Rattle.rules.proofs.Relation.{Rel, rel-free, with-state}
 use Rattle.rules.proofs.RefineArrivals.{arrived-rel, arrived-code}
 use Rattle.rules.proofs.Refine.{tick-slots, tick-entries, tick-rel}
-use Rattle.rules.proofs.RunPrompt.{arrivals-free}
+use Rattle.rules.proofs.RunTold.{arrivals-free}
 use Rattle.any_state.proofs.Entries.{refused, entry-laws}
 use Rattle.any_state.specs.AnySound.{SoundStore, ControlLeaves, storedBy, TickLeaves, Leaves}
 use Rattle.any_state.proofs.Showing.{shows-rel, shows-good}
@@ -63,33 +63,32 @@ module _ (B : Board) (L : Laws B) where
     abbrev s : List ℕ
     s = r .state
 
+    -- Of a state that reads as σ: what σ has of the state met is left.
+    reads-leave : (q v : ℕ) {s′ : List ℕ} {σ : Field → ℕ} → Reads B L none-out s′ σ → σ clock ≡ get s clock → σ free ≡ get s free
+        → ((i : ℕ) → (σ (Idle, i) ≡ get s (Idle, i)) × (σ (Time, i) ≡ get s (Time, i)) × (σ (Deadline, i) ≡ get s (Deadline, i)) × (σ (Mask, i) ≡ get s (Mask, i)))
+        → ((i : ℕ) → q ≢ i → (q ≡ 4 → i ≢ 3) → σ (Latch, i) ≡ get s (Latch, i))
+        → ((i : ℕ) → (q ≡ 3 → v ≢ i) → (σ (Outgoing, i) ≡ get s (Outgoing, i)) × (σ (Delay, i) ≡ get s (Delay, i)) × (σ (Routes, i) ≡ get s (Routes, i)))
+        → ((p : ℕ) → (q ≡ 5 → has (get s (Latch, 3)) p ≡ false) → σ (Horizon, p) ≡ get s (Horizon, p)) → ControlLeaves B q v r (with-state B L r s′)
+    reads-leave q v P t n slots latch entry horizon = record {
+      memory = refl;
+      clock = P .reads clock refl (omega arith) ∙ t;
+      free = P .reads free refl (omega arith) ∙ n;
+      slots = λ i l. let (a, b, d, e) = slots i in (P .reads (Idle, i) refl l ∙ a, P .reads (Time, i) refl l ∙ b, P .reads (Deadline, i) refl l ∙ d, P .reads (Mask, i) refl l ∙ e);
+      latch = λ i l a b. P .reads (Latch, i) refl l ∙ latch i a b;
+      entry = λ i l h. let (a, b, d) = entry i h in (P .reads (Outgoing, i) refl l ∙ a, P .reads (Delay, i) refl l ∙ b, P .reads (Routes, i) refl l ∙ d);
+      horizon = λ p l h. P .reads (Horizon, p) refl l ∙ horizon p h;
+    }
+
     -- One store in the latch.
     latch-leaves : (q v n : ℕ) → n < 4 → ((i : ℕ) → q ≢ i → (q ≡ 4 → i ≢ 3) → n ≢ i) → ControlLeaves B q v r (with-state B L r (put (r .state) (Latch, n) v))
     latch-leaves q v n l d =
-        let P = reads-put B L {t = none-out} (reads-self B L s sized) (Latch, n) v l in
-        record {
-          memory = refl;
-          clock = P .reads clock refl (omega arith);
-          free = P .reads free refl (omega arith);
-          slots = λ i l. (P .reads (Idle, i) refl l, P .reads (Time, i) refl l, P .reads (Deadline, i) refl l, P .reads (Mask, i) refl l);
-          latch = λ i l a b. P .reads (Latch, i) refl l ∙ rw (ne-eqb n i (d i a b));
-          entry = λ i l a. (P .reads (Outgoing, i) refl l, P .reads (Delay, i) refl l, P .reads (Routes, i) refl l);
-          horizon = λ p l a. P .reads (Horizon, p) refl l;
-        }
+        reads-leave q v (reads-put B L (reads-self B L s sized) (Latch, n) v l) refl refl (λ i. (refl, refl, refl, refl)) (λ i a b. rw (ne-eqb n i (d i a b))) (λ i a. (refl, refl, refl)) (λ p a. refl)
 
     -- Three stores in the table.
     entry-leaves : (v : ℕ) → v < 256 → ControlLeaves B 3 v r (with-state B L r (commitEntry B v (r .state)))
     entry-leaves v hv =
-        let P = reads-put B L {t = none-out} (reads-put B L (reads-put B L (reads-self B L s sized) (Outgoing, v) (get s (Latch, 0)) hv) (Delay, v) (get s (Latch, 1)) hv) (Routes, v) (get s (Latch, 2)) hv in
-        record {
-          memory = refl;
-          clock = P .reads clock refl (omega arith);
-          free = P .reads free refl (omega arith);
-          slots = λ i l. (P .reads (Idle, i) refl l, P .reads (Time, i) refl l, P .reads (Deadline, i) refl l, P .reads (Mask, i) refl l);
-          latch = λ i l a b. P .reads (Latch, i) refl l;
-          entry = λ i l a. let no = ne-eqb v i (a refl) in (P .reads (Outgoing, i) refl l ∙ rw no, P .reads (Delay, i) refl l ∙ rw no, P .reads (Routes, i) refl l ∙ rw no);
-          horizon = λ p l a. P .reads (Horizon, p) refl l;
-        }
+        reads-leave 3 v (reads-put B L (reads-put B L (reads-put B L (reads-self B L s sized) (Outgoing, v) (get s (Latch, 0)) hv) (Delay, v) (get s (Latch, 1)) hv) (Routes, v) (get s (Latch, 2)) hv)
+        refl refl (λ i. (refl, refl, refl, refl)) (λ i a b. refl) (λ i a. let no = ne-eqb v i (a refl) in (rw no, rw no, rw no)) (λ p a. refl)
 
     -- The horizons of the ports in register 4, one after the other.
     committed : (m v n : ℕ) → n ≤ 5 → Reads B L none-out (commitHorizon B n m v (r .state)) (marked B L Horizon (has m) v (get (r .state)) n)
@@ -98,17 +97,7 @@ module _ (B : Board) (L : Laws B) where
     committed m v (suc n) l = marked-next B L Horizon (has m) v (get s) n (committed m v n (omega arith)) (omega arith)
 
     horizon-leaves : (v : ℕ) → ControlLeaves B 5 v r (with-state B L r (commitHorizon B 5 (get (r .state) (Latch, 3)) v (r .state)))
-    horizon-leaves v =
-        let P = committed (get s (Latch, 3)) v 5 (omega arith) in
-        record {
-          memory = refl;
-          clock = P .reads clock refl (omega arith);
-          free = P .reads free refl (omega arith);
-          slots = λ i l. (P .reads (Idle, i) refl l, P .reads (Time, i) refl l, P .reads (Deadline, i) refl l, P .reads (Mask, i) refl l);
-          latch = λ i l a b. P .reads (Latch, i) refl l;
-          entry = λ i l a. (P .reads (Outgoing, i) refl l, P .reads (Delay, i) refl l, P .reads (Routes, i) refl l);
-          horizon = λ p l a. P .reads (Horizon, p) refl l ∙ rw (a refl, and-false (ltb p 5));
-        }
+    horizon-leaves v = reads-leave 5 v (committed (get s (Latch, 3)) v 5 (omega arith)) refl refl (λ i. (refl, refl, refl, refl)) (λ i a b. refl) (λ i a. (refl, refl, refl)) (λ p a. rw (a refl, and-false (ltb p 5)))
 
     -- Register by register.
     written-leaves : (q v : ℕ) → q ≤ 5 → fits c q v ≡ true → ControlLeaves B q v r (with-state B L r (written B q v (r .state)))

@@ -1,23 +1,21 @@
 -- A sound store and a router that it shows are related, and the router is good; and a store related to a good router shows it. Assumes nothing.
 use Prim.Native.Nat.{ℕ, suc, _+_, _-_, _*_, _^_, _<_, _≤_}
 use mathlib.Core.Path.{_≡_, refl, sym, ap, ap₂, subst, _∙_}
-use mathlib.Core.Bool.{true}
-use mathlib.Core.Logic.{_≢_}
 use mathlib.Core.List.{List}
 use mathlib.Core.Option.{Option, none, some}
 use native.Mathlib.Omega.{arith}
 use lib.Pow.{pow-pos}
-use lib.ListN.{length, getD}
+use lib.ListN.{length}
 use lib.Seq.{ext-getD}
 use lib.Dec.{T}
 use lib.IntN.{ℤ, pos, _+ℤ_, _-ℤ_}
 use lib.Signed.{leZ}
 use Rattle.rules.specs.Account.{PacketAt, Kept, stored}
 use Rattle.rules.specs.Areas.{Store, Bytes, byte, bits, half, packet, stamp, payload, packed, elem, distinct}
-use Rattle.rules.specs.Board.{Board, Idle, Time, Deadline, Mask, clock, free}
+use Rattle.rules.specs.Board.{Board, Idle, clock, free}
 use Rattle.rules.specs.Clock.{cut, minus, offset}
 use Rattle.rules.specs.Demand3.{PacketShown, PlaceShown}
-use Rattle.any_state.specs.Entries.{delayOf, offsetOf, StoredSound}
+use Rattle.any_state.specs.Entries.{delayOf, offsetOf}
 use Rattle.rules.specs.Questions.{stack}
 use Rattle.rules.specs.Whole.{Packet, Held, Router, packetBytes}
 use Rattle.rules.proofs.AreaLaws.{length-packet, length-payload, packed-parts, bytes-part}
@@ -33,8 +31,8 @@ use Rattle.rules.proofs.Relation.{on-settings, shown, SlotShows, Rel}
 use Rattle.rules.proofs.Soundness.{at-elem, stack-lists}
 use Rattle.any_state.proofs.Entries.{stack-iff}
 use Rattle.rules.proofs.StateLaws.{reads-self, reads-as, length-stack}
-use Rattle.rules.proofs.TimeLaws.{half-pos, offset-difference}
-use Rattle.any_state.specs.AnySound.{SoundStore, Near, Shows}
+use Rattle.rules.proofs.TimeLaws.{offset-difference}
+use Rattle.any_state.specs.AnySound.{SoundStore, Shows}
 
 -- Bytes where a packet has them are the packet's, packed.
 packet-back : (c : ℕ) (area : List ℕ) (i : ℕ) (x : Packet) → c < 20 → Bytes area → 20 * i + 20 ≤ length area → length (x .payload) ≡ 19 - c → PacketAt c area i x → packet area i ≡ packetBytes c x

@@ -1,5 +1,5 @@
 -- Every sound store shows a router that never turns over, its settings, places and free list read off the bytes; the calls keep the two related, and what is related to a good router is sound. Assumes nothing.
-use Prim.Native.Nat.{ℕ, _+_, _-_, _*_, _^_, _<_}
+use Prim.Native.Nat.{ℕ, _-_, _*_, _^_, _<_}
 use mathlib.Core.Path.{_≡_, refl, sym, ap, subst, _∙_}
 use mathlib.Core.Bool.{Bool, true, false, cond, not, Bool·not-not}
 use mathlib.Core.Logic.{_≢_}

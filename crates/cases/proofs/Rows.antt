@@ -13,7 +13,7 @@ use Rattle.rules.specs.Clock.{cut, minus, offset}
 use Rattle.rules.specs.Areas.{Store, bits, packet, has}
 use Rattle.rules.specs.Board.{Mask, clock, board8}
 use Rattle.rules.specs.Tick as Bytes
-use Rattle.rules.specs.Whole.{Router, Held, start, packetBytes}
+use Rattle.rules.specs.Whole.{Router, Held, packetBytes}
 use Rattle.rules.specs.Calls.{refusal, wholeStep}
 use Rattle.rules.specs.Given.{Proper}
 use Rattle.rules.specs.Demand3.{byteStep}

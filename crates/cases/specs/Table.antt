@@ -7,10 +7,10 @@ use lib.ListN.{replicate}
 use lib.IntN.{ℤ, pos, negℤ}
 use Rattle.rules.specs.Clock.{cut}
 use Rattle.rules.specs.Order.{counted}
-use Rattle.rules.specs.Areas.{Reply, bits, noPacket, packet, has}
+use Rattle.rules.specs.Areas.{Reply, bits, noPacket, has}
 use Rattle.rules.specs.Board.{board8}
 use Rattle.rules.specs.Questions.{fresh}
-use Rattle.rules.specs.Whole.{Packet, start, packetBytes}
+use Rattle.rules.specs.Whole.{Packet, start}
 use Rattle.rules.specs.Calls.{Call, control}
 use Rattle.rules.specs.Given.{Proper}
 use Rattle.rules.specs.Account.{NotedTick, Accepted, isSent, times, PacketAt}

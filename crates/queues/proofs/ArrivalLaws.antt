@@ -3,7 +3,6 @@
 use Prim.Native.Nat.{ℕ, zero, suc, _+_, _-_, _*_, _<_, _≤_}
 use mathlib.Core.Path.{_≡_, refl, sym, ap, ap₂, _∙_}
 use mathlib.Core.Bool.{Bool, true, false, cond, not, _&&_, _||_, Bool·beq, true≢false, and-true, and-false, or-false}
-use mathlib.Core.Logic.{_≢_}
 use mathlib.Core.List.{List, []}
 use native.Mathlib.Decide.{ℕ-discrete, decLt}
 use native.Mathlib.Omega.{arith}
@@ -12,13 +11,11 @@ use lib.Seq.{getD-take, getD-drop}
 use lib.Dec.{ltb, eqb}
 use borrow.Author.Tests.{eq-eqb, ne-eqb, lt-ltb, le-ltb}
 use Rattle.rules.specs.Order.{count, counted, topFirst}
-use Rattle.rules.specs.Areas.{Store, bits, byte, packet, stamp, has, elem}
-use Rattle.rules.specs.Board.{Board, Idle, Time, Deadline, Mask, Delay, Routes, clock, free}
-use Rattle.rules.specs.Clock.{plus}
-use Rattle.rules.specs.Questions.{stack}
-use Rattle.rules.specs.Tick.{arrival, placed, admitted, arrived, isEarly, slotKey}
+use Rattle.rules.specs.Areas.{Store, byte, has, elem}
+use Rattle.rules.specs.Board.{Board, Idle, Mask, clock, free}
+use Rattle.rules.specs.Tick.{arrived, isEarly, slotKey}
 use Rattle.rules.specs.Whole.{Router}
-use Rattle.rules.proofs.BoardLaws.{Laws, sameField}
+use Rattle.rules.proofs.BoardLaws.{Laws}
 use Rattle.rules.proofs.Booleans.{and-left}
 use Rattle.rules.proofs.Integers.{ltb-iff}
 use Rattle.rules.proofs.Masks.{has-zero}

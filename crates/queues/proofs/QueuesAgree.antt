@@ -16,7 +16,7 @@ use Rattle.rules.specs.Calls as Calls
 use Rattle.rules.specs.Calls.{Call, wholeStep, afterAll, replies}
 use Rattle.rules.specs.Given.{ByteCall, TrueTimes, Proper}
 use Rattle.rules.specs.Demand3.{byteStep}
-use Rattle.rules.specs.Questions.{sound, controlRefusal, tickRefusal, written}
+use Rattle.rules.specs.Questions.{controlRefusal, tickRefusal, written}
 use Rattle.rules.specs.Questions as Entry
 use Rattle.rules.specs.Tick.{arrival, arrived, grant, grantBytes, served, isDue}
 use Rattle.rules.specs.Tick as Tick
@@ -40,7 +40,7 @@ use Rattle.any_state.proofs.Showing.{shows-rel, shows-good}
 use Rattle.any_state.proofs.SoundKept.{routerOf, sound-store, shows-router, fed-bytes}
 use Rattle.any_state.specs.AnySound.{SoundStore, Shows}
 use Rattle.queues.specs.Table1.{Holds}
-use Rattle.queues.specs.Area.{queuesLength, queue}
+use Rattle.queues.specs.Area.{queuesLength}
 use Rattle.queues.specs.Engine.{Bench, eachPort, sentFrom, received, queueGrant, dueFrom, moveOver, arrivedBench, tickedBy, ticked}
 use Rattle.queues.specs.Engine as Engine
 use Rattle.queues.specs.QueuesAgree.{AllHold, SendsFirst, FirstsSent, AfterCalls, Agrees, QueuesAgree, benchStep}

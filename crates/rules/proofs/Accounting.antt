@@ -17,7 +17,7 @@ use Rattle.rules.proofs.IndexLaws.{count-only, counted-false}
 use Rattle.rules.proofs.Masks.{has-without-same, has-without-other, has-zero}
 use Rattle.rules.proofs.WholeLaws.{AllHeld, tally, tally-put, fresh-held, loses, lost-in, first-place, first-empty, emptied-at, arrival-passed, arrival-room}
 use Rattle.rules.proofs.Grants.{Rests, grant-rests, toServe-held}
-use Rattle.rules.proofs.Good.{Good, Input, after, arrivals-kept, serving, chosen, serving-by, served-window}
+use Rattle.rules.proofs.Good.{Good, Input, after, arrivals-kept, serving, chosen, served-window}
 
 -- The arrival is x's, and of a packet with the test m.
 unfoldable pub taken : (Packet → Bool) → Packet → Arrival → Bool

@@ -1,7 +1,7 @@
 -- What the claims say byte by byte, from the parts of areas: numbers of several bytes, packets, answers, and the entries of a stack. Assumes nothing.
 use Prim.Native.Nat.{ℕ, zero, suc, _+_, _-_, _*_, _/_, _%_, _^_, _<_, _≤_}
-use mathlib.Core.Path.{_≡_, refl, sym, ap, ap₂, subst, _∙_}
-use mathlib.Core.List.{List, [], _∷_, _++_}
+use mathlib.Core.Path.{_≡_, refl, sym, ap, ap₂, _∙_}
+use mathlib.Core.List.{List, _∷_, _++_}
 use native.Mathlib.Omega.{arith}
 use lib.ListN.{length, getD, take, drop, replicate, length-drop, length-append, getD-replicate}
 use lib.Seq.{length-take-le, drop-cons, take-at, getD-drop, getD-append-add}
@@ -11,7 +11,7 @@ use Rattle.rules.specs.Clock.{cut}
 use Rattle.rules.specs.Given.{number}
 use Rattle.rules.specs.Order.{topFirst}
 use Rattle.rules.specs.Whole.{Packet, packetBytes}
-use Rattle.rules.proofs.AreaLaws.{length-packet, length-digits, value-digits, length-packed}
+use Rattle.rules.proofs.AreaLaws.{length-packet, length-digits, value-digits}
 use Rattle.rules.proofs.FieldBytes.{packet-byte}
 
 -- ---- numbers

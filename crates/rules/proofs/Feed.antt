@@ -1,7 +1,6 @@
 -- Any bytes have true times: the clock and the offset of the header's time. So what demand 3 asks of the calls can always be met. Assumes nothing.
-use Prim.Native.Nat.{ℕ, _+_, _*_, _^_, _<_, _-_}
+use Prim.Native.Nat.{ℕ, _*_, _^_, _<_, _-_}
 use mathlib.Core.Path.{_≡_, refl, sym, ap, ap₂, subst, _∙_}
-use mathlib.Core.Bool.{true}
 use mathlib.Core.List.{List, [], _∷_, map, List·Memᴰ, List·Memᴰ·head, List·Memᴰ·tail}
 use native.Mathlib.Omega.{arith}
 use lib.ListN.{length, take, drop}

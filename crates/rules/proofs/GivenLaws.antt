@@ -6,7 +6,7 @@ use mathlib.Core.List.{List, [], _∷_, map, reverse, reverseAux}
 use native.Mathlib.Decide.{ℕ-discrete}
 use native.Mathlib.Omega.{arith}
 use lib.Dec.{leb, ltb, eqb}
-use lib.IntN.{ℤ, pos, sucℤ, _+ℤ_}
+use lib.IntN.{pos, sucℤ, _+ℤ_}
 use borrow.Author.Tests.{eq-eqb, ne-eqb, eqb-true, ltb-true, lt-ltb, leb-true, le-leb, lt-leb}
 use Rattle.rules.specs.Areas.{bits, half, has, Reply, areasFull, asked, fits}
 use Rattle.rules.specs.Clock.{cut}

@@ -27,6 +27,7 @@ pub mod RefineControl
 pub mod Refine
 pub mod Runs
 pub mod RunAccounts
+pub mod RunTold
 pub mod RunPrompt
 pub mod Agreement
 pub mod Feed

@@ -12,7 +12,7 @@ use lib.Dec.{leb, ltb, eqb}
 use lib.IntN.{pos, negℤ, sucℤ, _-ℤ_}
 use lib.Signed.{leZ}
 use borrow.Author.Tests.{eq-eqb, ne-eqb, lt-ltb, le-leb}
-use Rattle.rules.specs.Account.{Kept, stored}
+use Rattle.rules.specs.Account.{Kept}
 use Rattle.rules.specs.Areas.{bits, half, value, digits, packet, stamp, packed, portsBelow, perPort, answersArea, Grant, nobody, bestEffort, onTime, early, elem, distinct, Store}
 use Rattle.rules.specs.Board.{Board, Kind, Horizon, Latch, Free, Idle, Time, Deadline, Mask, Delay, Routes, clock, free}
 use Rattle.rules.specs.Clock.{cut, plus, minus, offset}

@@ -1,144 +1,33 @@
--- The rest of the accounts: what waits by the accounts stands in a place, and there the grant is the least; so no port idles and no arrival is refused without its reason. Assumes nothing.
-use Prim.Native.Nat.{ℕ, zero, suc, _+_, _-_, _*_, _/_, _%_, _<_, _≤_}
-use mathlib.Core.Path.{_≡_, refl, sym, ap, ap₂, subst, _∙_}
-use mathlib.Core.Bool.{Bool, true, false, cond, not, _&&_}
+-- The rest of the accounts: what waits by the accounts stands in its place, and there the grant is the least; so no port idles without its reason. Assumes nothing.
+use Prim.Native.Nat.{ℕ, zero, suc, _+_, _-_, _<_}
+use mathlib.Core.Path.{_≡_, refl, sym, ap, subst, _∙_}
+use mathlib.Core.Bool.{Bool, true, false, _&&_}
 use mathlib.Core.List.{List, [], _∷_, _++_, List·Memᴰ, List·Memᴰ·head, List·Memᴰ·tail, Memᴰ·append-left, Memᴰ·append-right}
 use mathlib.Core.Option.{none, some}
-use native.Mathlib.Decide.{ℕ-discrete}
 use native.Mathlib.Omega.{arith}
 use lib.ListN.{length, getD}
-use lib.Dec.{T, eqb, eqb→eq}
-use lib.IntN.{ℤ, sucℤ, pos, _+ℤ_, _-ℤ_}
+use lib.Dec.{T, eqb}
+use lib.IntN.{ℤ, sucℤ, pos, _-ℤ_}
 use lib.Signed.{leZ, ltZ, _≤ℤ_}
-use borrow.Author.Tests.{ne-eqb, eq-eqb}
-use Rattle.rules.specs.Account.{NotedTick, samePacket, isSent, times, isLeft, leftOn, sentOn, withdrawnOn, storedBelow, Accepted, Unserved, NoneOnTime, NoLater, Prompt, entryMet, answerDue, Made, Taken, Told, stored, Stored, GivenBack, freeBefore, Accounts}
-use Rattle.rules.specs.Given.{lastEntry}
-use Rattle.rules.specs.Areas.{byte, packet, has, grantCode, bestEffort, onTime, early, asked, arrivalQuestions, arrivalAnswer}
-use Rattle.rules.specs.Order.{count, counted, topFirst}
-use Rattle.rules.specs.Whole.{Packet, Entry, Router, TickCall, toServe, meets, arrivalRefusal, arrived, ticked, arrivalCode, answerBytes, grantBytes}
-use Rattle.rules.proofs.Booleans.{true→T, same-test}
+use borrow.Author.Tests.{ne-eqb}
+use Rattle.rules.specs.Account.{NotedTick, isSent, times, isLeft, leftOn, sentOn, withdrawnOn, Accepted, Unserved, NoneOnTime, NoLater, Prompt, stored, Stored, GivenBack, Accounts}
+use Rattle.rules.specs.Areas.{has, bestEffort, onTime, early}
+use Rattle.rules.specs.Order.{counted, topFirst}
+use Rattle.rules.specs.Whole.{Packet, Router, toServe, meets}
+use Rattle.rules.proofs.Booleans.{true→T}
 use Rattle.rules.proofs.IndexLaws.{count-none, count-some, count-same, count-pos, counted-true, counted-false}
 use Rattle.rules.proofs.Integers.{orders, suc-nat, not-le}
 use Rattle.rules.proofs.Masks.{some-port}
-use Rattle.rules.proofs.FieldBytes.{packet-byte}
-use Rattle.rules.proofs.ByteLaws.{packet-at, zeros-at, payload-byte, answer-at, topFirst-at}
+use Rattle.rules.proofs.ByteLaws.{topFirst-at}
 use Rattle.rules.proofs.StateLaws.{length-topFirst}
-use Rattle.rules.proofs.WholeLaws.{arrival-code, arrival-taken, arrival-free, emptied-free}
 use Rattle.rules.proofs.Grants.{grant-on-time, grant-best-effort, grant-waits, grant-early}
-use Rattle.rules.proofs.Good.{after, arrivals-frame, accepted-passed, serving, serving-by, chosen}
+use Rattle.rules.proofs.Good.{after, chosen}
 use Rattle.rules.proofs.Accounting.{taken, for-port, arrivals-left, served-left}
 use Rattle.rules.proofs.Runs.{next, next-good, Ticking, Run, rest, quiet, ticks, run-ticks, split, moment, over}
-use Rattle.rules.proofs.RunAccounts.{same-self, left-x, router-at, arrival-reported, grant-reported, stored-below, free-taken, window-at, size-at, rests, run-good, acceptedOn, accepted-append, conserve, once, unique, held-accepted, toServe-accepted, left-nothing, in-time, genuine, permitted}
-
--- ---- the free places of a tick
-
-module _ (c : ℕ) (w : Router) (call : TickCall) where
-  -- Each accepted arrival takes one free place.
-  pub arrivals-free : (p : ℕ) → length (after c w call p .free) + count p (λ q. eqb (arrivalCode (meets c call (after c w call q) q)) 1) ≡ length (w .free)
-  unfolding arrived count
-  arrivals-free zero = omega arith
-  arrivals-free (suc p) =
-      let a = arrivals-free p in
-      let b = arrival-free c (after c w call p) (call .arriving) p (packet (call .arrivals) p) (call .times p) in
-      omega arith
+use Rattle.rules.proofs.RunTold.{packet-taken, told, gave-back, run-free}
+use Rattle.rules.proofs.RunAccounts.{same-self, left-x, router-at, arrival-reported, grant-reported, window-at, run-good, acceptedOn, accepted-append, conserve, once, unique, held-accepted, toServe-accepted, left-nothing, in-time, genuine, permitted}
 
 module _ (c : ℕ) where
-  -- ---- questions 6 to 8 are exact
-
-  full-same : (a b : ℕ) → (a ≡ 0 → b ≡ 256) → (b ≡ 256 → a ≡ 0) → eqb a 0 ≡ eqb b 256
-  full-same a b f g = same-test (eqb a 0) (eqb b 256) (λ t. true→T (eqb b 256) (eq-eqb b 256 (f (eqb→eq a 0 t)))) (λ t. true→T (eqb a 0) (eq-eqb a 0 (g (eqb→eq b 256 t))))
-
-  in-numbers : (a b f : Bool) → arrivalAnswer (asked (arrivalQuestions (not a) b (not f))) ≡ cond a 6 (cond b (cond f 8 1) 7)
-  unfolding arrivalAnswer asked
-  in-numbers true b f = refl
-  in-numbers false false f = refl
-  in-numbers false true true = refl
-  in-numbers false true false = refl
-
-  -- The entry that an arrival meets is the one last committed.
-  entry-met : {d : NotedTick} → Ticking c d → (p : ℕ) → d .met .entry (byte (packet (d .call .arrivals) p) 0) ≡ entryMet c d p
-  entry-met {d} t p =
-      let k : byte (packet (d .call .arrivals) p) 0 ≡ byte (d .call .arrivals) (20 * p) = packet-byte (d .call .arrivals) p 0 (omega arith) ∙ ap (byte (d .call .arrivals)) (omega arith) in
-      t .settings .entry (byte (packet (d .call .arrivals) p) 0) ∙ ap (λ (i : ℕ). lastEntry c i (d .past)) k
-
-  -- By the settings, which the tick does not change, and the free places, which make 256 with the stored packets.
-  answers-due : {d : NotedTick} → Ticking c d → (p : ℕ) → p < 5 → arrivalCode (d .report .arrival p) ≡ answerDue c d p
-  unfolding answerDue arrivalRefusal
-  answers-due {d} t p hp =
-      let w = d .met in
-      let call = d .call in
-      let k = packet (call .arrivals) p in
-      let r = after c w call p in
-      let f = arrivals-frame c w call p in
-      let free = arrivals-free c w call p in
-      let kept = t .good .kept .all in
-      let n = stored-below c t p (omega arith) in
-      let answer : ℕ → ℕ = λ q. cond (has (call .arriving) p) (arrivalAnswer q) 0 in
-      let due : Entry → Bool → ℕ = λ e b. cond (has (call .arriving) p) (cond (eqb (e .mask) 0) 6 (cond (leZ (w .clock) (call .times p +ℤ pos (e .delay))) (cond b 8 1) 7)) 0 in
-      let e = w .entry (byte k 0) in
-      ap arrivalCode (arrival-reported c t p) ∙ arrival-code c r (call .arriving) p k (call .times p)
-      ∙ ap (λ (v : Router). answer (arrivalRefusal c v k (call .times p))) f
-      ∙ ap (λ (a : ℕ). cond (has (call .arriving) p) a 0) (in-numbers (eqb (e .mask) 0) (leZ (w .clock) (call .times p +ℤ pos (e .delay))) (eqb (length (r .free)) 0))
-      ∙ ap₂ due (entry-met t p) (full-same (length (r .free)) (stored (w .place) + storedBelow d p) (omega arith) (omega arith))
-
-  -- Where 1 is due the packet is accepted; and what is accepted is made at the settings of the tick.
-  packet-taken : {d : NotedTick} → Ticking c d → (p : ℕ) → p < 5 → Taken c d p
-  unfolding arrivalCode
-  packet-taken {d} t p hp =
-      let w = d .met in
-      let call = d .call in
-      let k = packet (call .arrivals) p in
-      let met = entry-met t p in
-      record {
-        due = λ e. let (x, a) = arrival-taken c (after c w call p) (call .arriving) p k (call .times p) (ap arrivalCode (sym (arrival-reported c t p)) ∙ answers-due t p hp ∙ e) in (x, arrival-reported c t p ∙ a);
-        only = λ x e. (
-          sym (answers-due t p hp) ∙ ap arrivalCode e,
-          subst (Made c d p) (accepted-passed c w call p x (sym (arrival-reported c t p) ∙ e) .packet) (record {
-            arrived = refl;
-            input = refl;
-            time = refl;
-            deadline = ap (λ (e : Entry). call .times p +ℤ pos (e .delay)) met;
-            identifier = ap (λ (e : Entry). e .identifier) met;
-            mask = ap (λ (e : Entry). e .mask) met;
-            payload = λ j l. payload-byte c (call .arrivals) p j l;
-          }),
-        );
-      }
-
-  -- Answers and outgoing are those of the report.
-  told : 0 < c → c < 20 → {d : NotedTick} → Ticking c d → (p : ℕ) → p < 5 → Told c d p
-  unfolding answerBytes grantCode grantBytes
-  told hc lc {d} t p l =
-      let r = d .report in
-      let (a, b, e, f) = subst (λ (x : List ℕ). (byte x p ≡ grantCode (r .grant p)) × (byte x (5 + p) ≡ arrivalCode (r .arrival p)) × (byte x (10 + 2 * p) ≡ length (r .withdrawn p) / 256) × (byte x (11 + 2 * p) ≡ length (r .withdrawn p) % 256)) (sym (t .answers)) (answer-at (λ p. grantCode (r .grant p)) (λ p. arrivalCode (r .arrival p)) (λ p. length (r .withdrawn p)) p l) in
-      record {
-        arrival = b ∙ answers-due t p l;
-        nobody = λ k. (a ∙ ap grantCode k, zeros-at (d .outgoing) p (t .sends p l ∙ ap (grantBytes c) k));
-        on-time = λ i x k. let (h, v, g) = rests c t p (onTime (i, x)) k in (a ∙ ap grantCode k, packet-at c (d .outgoing) p x hc lc (size-at c t p p (omega arith) i x h v) (t .sends p l ∙ ap (grantBytes c) k));
-        best-effort = λ k. (a ∙ ap grantCode k, zeros-at (d .outgoing) p (t .sends p l ∙ ap (grantBytes c) k));
-        early = λ i x k. let (h, v, g, n) = rests c t p (early (i, x)) k in (a ∙ ap grantCode k, packet-at c (d .outgoing) p x hc lc (size-at c t p p (omega arith) i x h v) (t .sends p l ∙ ap (grantBytes c) k));
-        withdrawn = (e, f);
-      }
-
-  -- ---- the free list
-
-  -- Serving takes no place, and emptied places go to the front.
-  gave-back : {d : NotedTick} → Ticking c d → GivenBack d (next c d .free)
-  unfolding ticked
-  gave-back {d} t =
-      let w = d .met in
-      let s = serving c w (d .call) 5 in
-      let (l, f, m, e) = emptied-free (s .clock) 256 s in
-      let k : s .free ≡ after c w (d .call) 5 .free = serving-by c w (d .call) (λ r. r .free ≡ after c w (d .call) 5 .free) refl 5 (λ p m r q i h. q) in
-      record { emptied = l; falling = f; list = e ∙ ap (λ (x : List ℕ). l ++ x) (k ∙ free-taken c t 5 (omega arith)) }
-
-  -- A run meets the free list that it begins with.
-  run-free : {r w : Router} {h : List NotedTick} → Run c r h w → freeBefore h w ≡ r .free
-  unfolding freeBefore
-  run-free (rest G) = refl
-  run-free (quiet ec ep ef R) = run-free R ∙ ef
-  run-free (ticks d t R) = refl
-
   -- ---- a run with one more tick
 
   -- By induction over the run.
@@ -261,7 +150,7 @@ module _ (c : ℕ) where
     -- All of it, from a router whose places are free, the lowest first.
     pub accounts : 0 < c → c < 20 → r .free ≡ topFirst (λ i. 255 - i) 256 → Accounts c (r .clock) h w
     accounts hc lc free =
-        let f = run-free R ∙ free in
+        let f = run-free c R ∙ free in
         record {
           account = λ x i a p hp. record {
             once = let v = conserve c p hp x R in let o = once c (for-port p) x i R a in let z = left-nothing c R empty p x in omega arith;
@@ -271,12 +160,12 @@ module _ (c : ℕ) where
           unique = unique c R;
           genuine = genuine c R empty;
           prompt = λ before later d e p hp. let (t, S, U) = split c R before later d e in prompt before d t S p hp;
-          taken = λ d m p hp. packet-taken (moment c R m .tick) p hp;
-          told = λ d m. told hc lc (moment c R m .tick);
+          taken = λ d m p hp. packet-taken c (moment c R m .tick) p hp;
+          told = λ d m. told c hc lc (moment c R m .tick);
           clocks = λ before later d e. run-ticks c (split c R before later d e .1);
           clock = run-ticks c R;
           stored = kept-stored;
           kept = run-good c R .kept;
           first-free = (ap length f ∙ length-topFirst (λ i. 255 - i) 256, λ i l. ap (λ (l : List ℕ). getD l i 0) f ∙ topFirst-at (λ i. 255 - i) 256 i l ∙ omega arith);
-          given-back = λ before later d e. let (t, S, U) = split c R before later d e in subst (GivenBack d) (sym (run-free U)) (gave-back t);
+          given-back = λ before later d e. let (t, S, U) = split c R before later d e in subst (GivenBack d) (sym (run-free c U)) (gave-back c t);
         }

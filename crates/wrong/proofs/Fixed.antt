@@ -3,7 +3,6 @@ use Prim.Native.Nat.{ℕ, _+_, _*_}
 use mathlib.Core.Path.{_≡_, refl, sym, _∙_}
 use mathlib.Core.Bool.{Bool, true, false, _&&_, true≢false}
 use mathlib.Core.Logic.{_↔_}
-use mathlib.Core.List.{List}
 use Rattle.rules.specs.Areas.{Store, areasFull}
 use Rattle.rules.specs.Board.{Board, board8}
 use Rattle.rules.specs.Questions.{full, settingsSound, stackSound, slotsSound, lowestBad}

@@ -1,8 +1,8 @@
 -- Each wrong router breaks the claim on one short list of calls: the router that never turns over computes the list, and what the claim says of the ticks noted is another. No state of bytes computes, since a tick is noted by the second router's number. Assumes nothing.
-use Prim.Native.Nat.{ℕ, _+_, _<_, _≤_}
+use Prim.Native.Nat.{ℕ, _+_, _<_}
 use mathlib.Core.Path.{_≡_, refl, sym, ap, subst, _∙_}
 use mathlib.Core.Bool.{true}
-use mathlib.Core.List.{List, [], _∷_, _++_, List·Memᴰ, List·Memᴰ·head, List·Memᴰ·tail, List·Memᴰ·eq-of-singleton}
+use mathlib.Core.List.{List, [], _∷_, _++_, List·Memᴰ·head, List·Memᴰ·tail, List·Memᴰ·eq-of-singleton}
 use mathlib.Core.Logic.{inl, inr}
 use native.Mathlib.Omega.{arith}
 use native.Mathlib.Nat.{le-refl}
@@ -13,7 +13,7 @@ use lib.IntN.{ℤ, pos}
 use lib.Signed.{ltZ}
 use Rattle.rules.specs.Account as N
 use Rattle.rules.specs.Account.{NotedTick, NoLater}
-use Rattle.rules.specs.Areas.{Store, Reply, byte, bits, Grant, nobody, bestEffort, onTime, early}
+use Rattle.rules.specs.Areas.{Store, Reply, byte, bits, nobody, bestEffort, onTime, early}
 use Rattle.rules.specs.Board.{board8}
 use Rattle.rules.specs.Calls.{Call, control, tick, accept, wholeStep}
 use Rattle.rules.specs.Demand3 as D

@@ -1,5 +1,5 @@
 -- Wrong routers that never turn over: the five wrong routers that look sound and the six to be shut out of document 01, and others that once met the claims. Each is ours with one part changed. Assumes nothing.
-use Prim.Native.Nat.{ℕ, zero, suc, _-_}
+use Prim.Native.Nat.{ℕ, zero, suc}
 use mathlib.Core.Bool.{Bool, true, false, cond, not, _&&_}
 use mathlib.Core.List.{List, [], _∷_, _++_}
 use mathlib.Core.Option.{Option, none, some}
@@ -10,7 +10,7 @@ use lib.Signed.{leZ, ltZ}
 use Rattle.rules.specs.Clock.{cut}
 use Rattle.rules.specs.Order.{Order, by, then, Key, onTimeFirst, comparator, least}
 use Rattle.rules.specs.Areas.{Outcome, numberReply, packet, has, perPort, noPacket, answersArea, Grant, nobody, bestEffort, onTime, early}
-use Rattle.rules.specs.Whole.{Packet, Held, Router, TickCall, Arrival, absent, refused, accepted, Report, Ticked, put, withPlaces, start, written, admitted, toServe, packetKey, packetKeyOf, granted, grant, sent, isDue, due, withdrawn, remaining, isHeld, emptied, advanced, arrival, meets, packetBytes, outgoingBytes, arrivalCode, answerBytes}
+use Rattle.rules.specs.Whole.{Packet, Held, Router, TickCall, Arrival, absent, refused, accepted, Report, Ticked, put, withPlaces, start, written, admitted, toServe, packetKey, packetKeyOf, granted, grant, sent, withdrawn, remaining, isHeld, emptied, advanced, arrival, meets, packetBytes, outgoingBytes, arrivalCode, answerBytes}
 use Rattle.rules.specs.Calls.{Call, control, tick, refusal, refuse, wholeStep}
 use Rattle.rules.specs.Demand3.{NeverOver}
 
