@@ -9,7 +9,7 @@ use lib.IntN.{ℤ, pos, negℤ, _+ℤ_, _-ℤ_}
 use lib.Signed.{leZ, ltZ}
 use Rattle.rules.specs.Clock.{cut}
 use Rattle.rules.specs.Order.{Order, by, then, Key, onTimeFirst, comparator, least}
-use Rattle.rules.specs.Areas.{Outcome, numberReply, packet, has, perPort, noPacket, answersArea, Grant, nobody, bestEffort, onTime, early}
+use Rattle.rules.specs.Areas.{Outcome, numberReply, byte, packet, has, perPort, noPacket, answersArea, Grant, nobody, bestEffort, onTime, early}
 use Rattle.rules.specs.Whole.{Packet, Held, Router, TickCall, Arrival, absent, refused, accepted, Report, Ticked, put, withPlaces, start, written, admitted, toServe, packetKey, packetKeyOf, granted, grant, sent, withdrawn, remaining, isHeld, emptied, advanced, arrival, meets, packetBytes, outgoingBytes, arrivalCode, answerBytes}
 use Rattle.rules.specs.Calls.{Call, control, tick, refusal, refuse, wholeStep}
 use Rattle.rules.specs.Demand3.{NeverOver}
@@ -156,7 +156,7 @@ kept i (refused q) = refused q
 kept i (accepted x) = accepted (record { arrived = x .arrived; input = x .input; time = x .time; deadline = x .deadline; identifier = i; payload = x .payload; mask = x .mask })
 
 abbrev pub keepsIdentifier : NeverOver
-keepsIdentifier = built written (λ call r p. kept (lib.ListN.getD (packet (call .arrivals) p) 0 0) (meets 1 call r p)) grant sent ends leaves sends answerBytes
+keepsIdentifier = built written (λ call r p. kept (byte (packet (call .arrivals) p) 0) (meets 1 call r p)) grant sent ends leaves sends answerBytes
 
 -- Refusing every tick with 3.
 unfoldable pub refusingTicks : Router → Call → Outcome Router
