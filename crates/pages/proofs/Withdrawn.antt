@@ -29,7 +29,7 @@ withdrawals-at-most-256 : (B : Board) (s : List ℕ) (p : ℕ) → Tick.withdraw
 unfolding Tick.withdrawals
 withdrawals-at-most-256 B s p = count-at-most _ 256
 
-tick-at-most-1280 : (B : Board) (r : Store) (arriving waiting : ℕ) (area : List ℕ) → withdrawnSum (Tick.ticked B r arriving waiting area .reply .answers) ≤ 1280
+pub tick-at-most-1280 : (B : Board) (r : Store) (arriving waiting : ℕ) (area : List ℕ) → withdrawnSum (Tick.ticked B r arriving waiting area .reply .answers) ≤ 1280
 tick-at-most-1280 B r arriving waiting area =
     let on = withdrawals-at-most-256 B (Tick.served B 5 waiting (Tick.arrived B 5 arriving area r .state)) in
     rw (withdrawn-of-tick B r arriving waiting area) (omega (arith, on 0, on 1, on 2, on 3, on 4))

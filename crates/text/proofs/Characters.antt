@@ -16,7 +16,7 @@ use Rattle.text.proofs.Numbers.{length-decimal}
 
 -- ---- lengths
 
-length-field : (code identifier : ℕ) → length (field code identifier) ≡ 3
+pub length-field : (code identifier : ℕ) → length (field code identifier) ≡ 3
 unfolding field
 length-field code identifier = go (eqb code 0) (eqb code 2)
   where

@@ -73,7 +73,7 @@ pub decimal-reads : (k v : ℕ) → v < 10 ^ k → Reads (decimal k v) v
 decimal-reads k v h = record { digits = digits-decimal k v; value = read-decimal k v h }
 
 -- A number's digits hold it, and the first is no zero unless it is the only one.
-digits-hold : (k v : ℕ) → v < 10 ^ suc k → v < 10 ^ digitsUpTo k v
+pub digits-hold : (k v : ℕ) → v < 10 ^ suc k → v < 10 ^ digitsUpTo k v
 unfolding digitsUpTo
 digits-hold zero v h = h
 digits-hold (suc k) v h = go (digits-hold k (v / 10) (omega (arith, pow-suc 10 (suc k), h))) (ltb v 10) refl
@@ -91,7 +91,7 @@ digits-some (suc k) v = go (ltb v 10)
     go true = omega arith
     go false = omega arith
 
-first-no-zero : (k v : ℕ) → 0 < v → v < 10 ^ suc k → getD (decimal (digitsUpTo k v) v) 0 0 ≢ 48
+pub first-no-zero : (k v : ℕ) → 0 < v → v < 10 ^ suc k → getD (decimal (digitsUpTo k v) v) 0 0 ≢ 48
 unfolding digitsUpTo decimal
 first-no-zero zero v p h = λ e. omega arith
 first-no-zero (suc k) v p h = go (λ q. first-no-zero k (v / 10) q (omega (arith, pow-suc 10 (suc k), h))) (ltb v 10) refl

@@ -1,0 +1,4 @@
+pub mod LinesRead
+pub mod Small
+pub mod Steps
+pub mod TapePrinted
