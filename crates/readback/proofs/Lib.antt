@@ -2,3 +2,4 @@ pub mod LinesRead
 pub mod Small
 pub mod Steps
 pub mod TapePrinted
+pub mod Example

@@ -41,7 +41,7 @@ pub record Printed (k : ℕ) (σ : Tape) (input : List ℕ) (es : List Event) : 
 
 module _ (σ : Tape) (k : ℕ) (r : List ℕ) where
   -- An input of one record.
-  one-record : length r ≤ 24 → after σ k r 1 ≡ record { tape = takeRecord σ (suc k) r .tape; events = takeRecord σ (suc k) r .event ∷ [] }
+  pub one-record : length r ≤ 24 → after σ k r 1 ≡ record { tape = takeRecord σ (suc k) r .tape; events = takeRecord σ (suc k) r .event ∷ [] }
   unfolding after
   one-record l =
       let n : k + 1 ≡ suc k = omega arith in

@@ -1,1 +1,2 @@
 pub mod TapePrinted
+pub mod Example
