@@ -1,18 +1,17 @@
--- The pages of a tape show it: each line ends at its line feed, each page shows its part of the ticks, and all the parts are all the ticks. Assumes nothing.
+-- Pages of ticks show their T lines: each line ends at its line feed, each page shows its part of the ticks, and all the parts are all the ticks. Assumes nothing.
 use Prim.Native.Nat.{ℕ, zero, suc, _+_, _-_, _*_, _%_, _≤_, _<_}
 use mathlib.Core.Path.{_≡_, refl, ap}
 use mathlib.Core.Bool.{false}
 use mathlib.Core.List.{List, [], _∷_, _++_, map, map-append, flatten}
 use native.Mathlib.Omega.{arith}
-use lib.ListN.{length, length-take, length-drop, getD, take, drop, take-append-drop, replicate}
-use lib.Seq.{take-at, drop-drop}
-use Rattle.events.specs.Tape.{eventsOf}
+use lib.ListN.{length, length-map, length-take, length-drop, getD, take, drop, take-append-drop, replicate}
+use lib.Seq.{take-at, take-nil, drop-drop}
 use Rattle.text.specs.Lines.{tickText}
 use Rattle.text.specs.Characters.{cutFrom}
 use Rattle.text.proofs.Characters.{length-tick-text, cut-line}
-use Rattle.pages.specs.Pages.{Tick, ticksOf, spaces, textOf, tickRow, emptyRow, totalOf, totalLine, pageOf, nextNumber, pagesFrom, pageCount, pagesOf, ended, printedPages}
-use Rattle.pages.specs.Claims.{blank, textsOn, ticksOn, PagesShowTheTape}
-use Rattle.pages.proofs.Withdrawn.{total-on-a-page}
+use Rattle.pages.specs.Pages.{Tick, spaces, textOf, tickRow, emptyRow, totalOf, totalLine, pageOf, nextNumber, pagesFrom, pageCount, pagesOf, ended}
+use Rattle.pages.specs.Claims.{blank, textsOn, ticksOn, PagesRight}
+use Rattle.pages.proofs.Withdrawn.{Bounded, bounded-take, bounded-drop}
 use Rattle.pages.proofs.Showing.{PlainLines, plain-append, plain-page, tick-row, rows, length-rows, page-shows}
 
 -- ---- lines
@@ -74,20 +73,30 @@ ticks-once (suc k) n ts h =
     let b = drop 62 ts in
     rw (texts-on-page n a (omega (arith, length-take 62 ts)), ticks-once k (nextNumber n) b (omega (arith, length-drop 62 ts)), ← map-append textOf a b, take-append-drop 62 ts)
 
--- ---- the claim
+-- ---- pages of such ticks
 
-pub pages-show-the-tape : PagesShowTheTape
-unfolding PagesShowTheTape printedPages pagesOf
-pages-show-the-tape input =
-    let ts = ticksOf (eventsOf input) in
+-- The lines of a part of the ticks are that part of the lines.
+lines-part : (n i : ℕ) (ts : List Tick) → take n (drop i (map textOf ts)) ≡ map textOf (take n (drop i ts))
+lines-part zero zero ts = refl
+lines-part (suc n) zero [] = refl
+lines-part (suc n) zero (t ∷ ts) = ap (λ (l : List (List ℕ)). textOf t ∷ l) (lines-part n zero ts)
+lines-part n (suc i) [] = rw (take-nil {A = List ℕ} n, take-nil {A = Tick} n)
+lines-part n (suc i) (t ∷ ts) = lines-part n i ts
+
+pub pages-right : (ts : List Tick) → Bounded ts → PagesRight (map textOf ts) (ended (flatten (pagesOf ts)))
+unfolding pagesOf
+pages-right ts bounded =
     let count = pageCount (length ts) in
     let counted = pages-count count 1 ts in
+    let as-many = length-map ts textOf in
     record {
+      pages = pagesFrom count 1 ts;
       lines = cut-lines (flatten (pagesFrom count 1 ts)) (plain-pages count 1 ts (omega arith));
       count = (omega arith, omega arith);
       shows = λ i h.
           let number : (1 + i) % 10000 ≡ (i + 1) % 10000 = omega arith in
-          rw (page-at count 1 ts i (omega arith) (omega arith), number)
-          (page-shows ((i + 1) % 10000) (take 62 (drop (62 * i) ts)) (omega arith) (omega (arith, length-take 62 (drop (62 * i) ts))) (total-on-a-page input (62 * i)));
+          let page = take 62 (drop (62 * i) ts) in
+          rw (page-at count 1 ts i (omega arith) (omega arith), number, lines-part 62 (62 * i) ts)
+          (page-shows ((i + 1) % 10000) page (omega arith) (omega (arith, length-take 62 (drop (62 * i) ts))) (bounded-take 62 (drop (62 * i) ts) (bounded-drop (62 * i) ts bounded)));
       once = ticks-once count 1 ts (omega arith);
     }

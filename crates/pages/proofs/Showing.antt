@@ -3,7 +3,7 @@ use Prim.Native.Nat.{ℕ, zero, suc, _+_, _-_, _≤_, _<_}
 use mathlib.Core.Path.{_≡_, refl, _∙_}
 use mathlib.Core.List.{List, [], _∷_, _++_, append-assoc, map, map-append}
 use native.Mathlib.Omega.{arith}
-use lib.ListN.{length, length-append, length-map, replicate, length-replicate, getD-replicate, replicate-append-replicate, List·getD-append}
+use lib.ListN.{length, getD, take, drop, length-append, length-map, replicate, length-replicate, getD-replicate, replicate-append-replicate, List·getD-append}
 use lib.Seq.{take-at, drop-at, getD-at, getD-append-add}
 use Rattle.text.specs.Lines.{decimal, digitsOf, unpadded}
 use Rattle.text.specs.Characters.{NoFeed}
@@ -11,6 +11,7 @@ use Rattle.text.proofs.Numbers.{length-decimal, digits-few, decimal-reads, unpa
 use Rattle.text.proofs.Characters.{length-tick-text, no-feed-append, no-feed-replicate, no-feed-decimal, no-feed-tick-text}
 use Rattle.pages.specs.Pages.{Tick, spaces, textOf, numberLine, tickRow, emptyRow, totalOf, totalLine, pageOf}
 use Rattle.pages.specs.Claims.{line, Shows}
+use Rattle.pages.proofs.Withdrawn.{Bounded, total-on-a-page, said-in-all}
 
 -- ---- lines
 
@@ -97,6 +98,12 @@ plain-page n ts h =
 
 -- ---- what stands on a page
 
+-- The i-th tick, by its row and its text.
+tick-at : (ts : List Tick) (i : ℕ) → i < length ts → (t : Tick) × (getD (map tickRow ts) i [] ≡ tickRow t) × (getD (map textOf ts) i [] ≡ textOf t)
+tick-at [] i h = absurd (omega arith)
+tick-at (t ∷ ts) zero h = (t, refl, refl)
+tick-at (t ∷ ts) (suc i) h = tick-at ts i (omega arith)
+
 module _ (n : ℕ) (ts : List Tick) (few : length ts ≤ 62) where
   page-length : length (pageOf n ts) ≡ 64
   unfolding pageOf
@@ -106,15 +113,16 @@ module _ (n : ℕ) (ts : List Tick) (few : length ts ≤ 62) where
   unfolding pageOf
   last-line = getD-at (rows ts) (totalLine (totalOf ts)) [] [] 62 (length-rows ts few) ∙ total-line (totalOf ts)
 
-  tick-line : (a : List Tick) (t : Tick) (b : List Tick) → ts ≡ a ++ (t ∷ b) → line (pageOf n ts) (1 + length a) ≡ textOf t ++ spaces 42
+  tick-line : (i : ℕ) → i < length ts → (take 30 (line (pageOf n ts) (1 + i)) ≡ getD (map textOf ts) i []) × (drop 30 (line (pageOf n ts) (1 + i)) ≡ spaces 42)
   unfolding pageOf
-  tick-line a t b e =
+  tick-line i h =
       let empty = replicate (62 - length ts) emptyRow in
       let last : List (List ℕ) = totalLine (totalOf ts) ∷ [] in
-      let ticks : map tickRow ts ≡ map tickRow a ++ (tickRow t ∷ map tickRow b) = rw e (map-append tickRow a (t ∷ b)) in
-      let place : 1 + length a ≡ suc (length a) = omega arith in
-      rw (place, ticks, append-assoc (map tickRow a) (tickRow t ∷ map tickRow b) empty, append-assoc (map tickRow a) (tickRow t ∷ map tickRow b ++ empty) last)
-      (getD-at (map tickRow a) (tickRow t) (map tickRow b ++ empty ++ last) [] (length a) (length-map a tickRow) ∙ tick-row t)
+      let place : 1 + i ≡ suc i = omega arith in
+      let (t, row, text) = tick-at ts i h in
+      let long = length-tick-text (t .clock) (t .outgoing) (t .answers) in
+      let inner : i < length (map tickRow ts) = omega (arith, length-map ts tickRow) in
+      rw (place, append-assoc (map tickRow ts) empty last, List·getD-append (map tickRow ts) (empty ++ last) [] i inner, row, tick-row t, text) (take-at (textOf t) (spaces 42) 30 long, drop-at (textOf t) (spaces 42) 30 long)
 
   empty-line : (i : ℕ) → length ts ≤ i → i < 62 → line (pageOf n ts) (1 + i) ≡ spaces 72
   unfolding pageOf
@@ -128,21 +136,20 @@ module _ (n : ℕ) (ts : List Tick) (few : length ts ≤ 62) where
       ∙ List·getD-append empty last [] j (omega (arith, length-replicate (62 - length ts) emptyRow))
       ∙ getD-replicate (62 - length ts) j emptyRow [] (omega arith))
 
-pub page-shows : (n : ℕ) (ts : List Tick) → n < 10000 → length ts ≤ 62 → totalOf ts < 1000000 → Shows n ts (pageOf n ts)
+pub page-shows : (n : ℕ) (ts : List Tick) → n < 10000 → length ts ≤ 62 → Bounded ts → Shows n (map textOf ts) (pageOf n ts)
 unfolding pageOf
-page-shows n ts small few bound =
+page-shows n ts small few bounded =
     let right = spaces (4 - length (unpadded n)) ++ unpadded n in
     let total = decimal 6 (totalOf ts) in
+    let as-many = length-map ts textOf in
     record {
       lines = page-length n ts few;
       width = λ i h. plain-at (pageOf n ts) i (plain-page n ts small) (omega (arith, page-length n ts few));
       margin = rw (number-line n small) (take-at (spaces 68) right 68 refl);
       number = rw (number-line n small, drop-at (spaces 68) right 68 refl) (unpadded-reads (4 - length (unpadded n)) n (omega arith));
-      ticks = few;
-      tick = λ a t b e.
-          let long = length-tick-text (t .clock) (t .outgoing) (t .answers) in
-          rw (tick-line n ts few a t b e) (take-at (textOf t) (spaces 42) 30 long, drop-at (textOf t) (spaces 42) 30 long);
-      none = empty-line n ts few;
-      total = rw (last-line n ts few, take-at total (spaces 66) 6 (length-decimal 6 (totalOf ts))) (decimal-reads 6 (totalOf ts) bound);
+      ticks = omega arith;
+      tick = λ i h. tick-line n ts few i (omega arith);
+      none = λ i h l. empty-line n ts few i (omega arith) l;
+      total = rw (last-line n ts few, take-at total (spaces 66) 6 (length-decimal 6 (totalOf ts)), said-in-all ts bounded) (decimal-reads 6 (totalOf ts) (total-on-a-page ts bounded few));
       rest = rw (last-line n ts few) (drop-at total (spaces 66) 6 (length-decimal 6 (totalOf ts)));
     }

@@ -2,9 +2,9 @@
 use Prim.Native.Nat.{ℕ, zero, suc, _+_, _*_, _≤_, _<_}
 use mathlib.Core.Path.{_≡_, refl}
 use mathlib.Core.Bool.{Bool, true, false, cond}
-use mathlib.Core.List.{List, [], _∷_, _++_}
+use mathlib.Core.List.{List, [], _∷_, _++_, map}
 use native.Mathlib.Omega.{arith}
-use lib.ListN.{length, length-take, take, drop, replicate}
+use lib.ListN.{length, take, drop, replicate}
 use lib.Dec.{eqb}
 use Rattle.rules.specs.Areas.{Store, byte, outgoingLength, answersLength, portsBelow, answersArea, Outcome}
 use Rattle.rules.specs.Board.{Board, board8}
@@ -14,7 +14,11 @@ use Rattle.records.specs.Records.{controlKind, arrivalKind, recordAt, recordsIn
 use Rattle.passes.proofs.Counting.{count-at-most}
 use Rattle.events.specs.Tape.{Tape, start, Event, nothing, refused, ticked, afterControl, takeControl, takeArrival, afterTick, takeTick, takeRecord, after, eventsOf}
 use Rattle.text.specs.Lines.{withdrawnBelow, withdrawnSum}
-use Rattle.pages.specs.Pages.{Tick, ticksOf, withdrawnBy, totalOf}
+use Rattle.text.specs.Characters.{readFrom}
+use Rattle.text.proofs.Numbers.{decimal-reads}
+use Rattle.text.proofs.TickText.{count-part}
+use Rattle.pages.specs.Pages.{Tick, ticksOf, textOf, withdrawnBy, totalOf}
+use Rattle.pages.specs.Claims.{saidWithdrawn}
 
 -- ---- one tick
 
@@ -37,7 +41,7 @@ tick-at-most-1280 B r arriving waiting area =
 -- ---- ticks
 
 -- Each of them withdraws at most 1,280.
-Bounded : List Tick → Type 0
+unfoldable pub Bounded : List Tick → Type 0
 Bounded [] = Unit {0}
 Bounded (t ∷ ts) = (withdrawnBy t ≤ 1280) × Bounded ts
 
@@ -46,13 +50,13 @@ unfolding Bounded
 bounded-append [] b f g = g
 bounded-append (t ∷ a) b f g = (f .0, bounded-append a b (f .1) g)
 
-bounded-take : (n : ℕ) (ts : List Tick) → Bounded ts → Bounded (take n ts)
+pub bounded-take : (n : ℕ) (ts : List Tick) → Bounded ts → Bounded (take n ts)
 unfolding Bounded
 bounded-take zero ts f = tt
 bounded-take (suc n) [] f = tt
 bounded-take (suc n) (t ∷ ts) f = (f .0, bounded-take n ts (f .1))
 
-bounded-drop : (n : ℕ) (ts : List Tick) → Bounded ts → Bounded (drop n ts)
+pub bounded-drop : (n : ℕ) (ts : List Tick) → Bounded ts → Bounded (drop n ts)
 unfolding Bounded
 bounded-drop zero ts f = f
 bounded-drop (suc n) [] f = tt
@@ -109,11 +113,20 @@ bounded-after σ k input (suc i) =
     let last : List Event = takeRecord (o .tape) (k + suc i) (recordAt input i) .event ∷ [] in
     rw (ticks-append (o .events) last) (bounded-append (ticksOf (o .events)) (ticksOf last) (bounded-after σ k input i) (bounded-record (o .tape) (k + suc i) (recordAt input i)))
 
--- The total of some of a tape's ticks, at most 62 from the m-th on.
-pub total-on-a-page : (input : List ℕ) (m : ℕ) → totalOf (take 62 (drop m (ticksOf (eventsOf input)))) < 1000000
+pub tape-bounded : (input : List ℕ) → Bounded (ticksOf (eventsOf input))
 unfolding eventsOf
-total-on-a-page input m =
-    let ts = ticksOf (eventsOf input) in
-    let page = take 62 (drop m ts) in
-    let bounded = bounded-take 62 (drop m ts) (bounded-drop m ts (bounded-after start 0 input (recordsIn input))) in
-    omega (arith, total-at-most page bounded, length-take 62 (drop m ts))
+tape-bounded input = bounded-after start 0 input (recordsIn input)
+
+-- The total of at most 62 such ticks.
+pub total-on-a-page : (ts : List Tick) → Bounded ts → length ts ≤ 62 → totalOf ts < 1000000
+total-on-a-page ts bounded few = omega (arith, total-at-most ts bounded)
+
+-- ---- what the T lines of such ticks say
+
+pub said-in-all : (ts : List Tick) → Bounded ts → saidWithdrawn (map textOf ts) ≡ totalOf ts
+unfolding Bounded totalOf saidWithdrawn
+said-in-all [] f = refl
+said-in-all (t ∷ ts) f =
+    let n = withdrawnBy t in
+    let said : readFrom 0 (drop 26 (textOf t)) ≡ n = rw (count-part (t .clock) (t .outgoing) (t .answers)) (decimal-reads 4 n (let h = f .0 in omega arith) .value) in
+    omega (arith, said, said-in-all ts (f .1))

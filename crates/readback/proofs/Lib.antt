@@ -3,3 +3,4 @@ pub mod Small
 pub mod Steps
 pub mod TapePrinted
 pub mod Example
+pub mod PagesPrinted

@@ -57,7 +57,7 @@ cuts-line l h rest = cut-line [] l rest h
 pub cuts-refused : (k q : ℕ) → CutsTo (refusedLine k q) (refusedText k q ∷ [])
 cuts-refused k q = subst (λ (l : List ℕ). CutsTo l (refusedText k q ∷ [])) (sym (refused-line k q)) (cuts-line (refusedText k q) (no-feed-refused k q))
 
-cuts-tick : (t : ℕ) (out ans : List ℕ) → CutsTo (tickLine t out ans) (tickText t out ans ∷ [])
+pub cuts-tick : (t : ℕ) (out ans : List ℕ) → CutsTo (tickLine t out ans) (tickText t out ans ∷ [])
 unfolding tickLine
 cuts-tick t out ans = cuts-line (tickText t out ans) (no-feed-tick-text t out ans)
 

@@ -1,2 +1,3 @@
 pub mod TapePrinted
 pub mod Example
+pub mod PagesPrinted
