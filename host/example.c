@@ -1,4 +1,7 @@
-/* example.c - opens two connections, sends a packet through each, and prints what leaves in a few ticks. */
+/*
+ * example.c - sees that the archive suits the header, opens two connections, sends a packet through each, and prints
+ * what leaves in a few ticks.
+ */
 
 #include <stdio.h>
 #include <stdlib.h>
@@ -63,6 +66,10 @@ static void tick(uint8_t arrivals_mask, uint8_t best_effort_mask)
 
 int main(void)
 {
+    if (router_version() / 10000 != ROUTER_VERSION_MAJOR || router_version() < ROUTER_VERSION) {
+        printf("the archive has version %lu, and router.h %d\n", (unsigned long)router_version(), ROUTER_VERSION);
+        return EXIT_FAILURE;
+    }
     check("fresh", router_fresh(state, sizeof state, memory, sizeof memory, 254));
     open_connection(5, 33, 10, 1 << 1);           /* to port 1 */
     open_connection(6, 34, 20, 1 << 0 | 1 << 4);  /* to ports 0 and 4 */

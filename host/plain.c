@@ -132,3 +132,8 @@ size_t plain_display(const uint8_t *outgoing, size_t outgoing_len, uint8_t port)
         return outgoing_len;
     return ROUTER_PACKET_LEN * port + ROUTER_PACKET_DATA;
 }
+
+uint32_t plain_version(void)
+{
+    return ROUTER_VERSION;
+}

@@ -21,6 +21,8 @@ uint8_t plain_tick(uint8_t *state, size_t state_len,
 
 size_t plain_display(const uint8_t *outgoing, size_t outgoing_len, uint8_t port);
 
+uint32_t plain_version(void);
+
 /* Of plain_queues.c. */
 uint16_t plain_fault(const uint8_t *state, size_t state_len,
                      const uint8_t *memory, size_t memory_len);
@@ -41,5 +43,7 @@ uint8_t plain_queues_tick(uint8_t *state, size_t state_len,
                           uint8_t *outgoing, size_t outgoing_len,
                           uint8_t *answers, size_t answers_len,
                           uint8_t arrivals_mask, uint8_t best_effort_mask);
+
+uint32_t plain_service_version(void);
 
 #endif

@@ -278,3 +278,8 @@ uint8_t plain_queues_tick(uint8_t *state, size_t state_len,
         move_over(queues + place_of(p, ROUTER_QUEUE_EARLY), queues + place_of(p, ROUTER_QUEUE_ON_TIME), state);
     return ROUTER_ACCEPTED;
 }
+
+uint32_t plain_service_version(void)
+{
+    return ROUTER_VERSION;
+}

@@ -3,4 +3,5 @@
 #define plain_control router_control
 #define plain_tick router_tick
 #define plain_display router_display
+#define plain_version router_version
 #include "plain.c"

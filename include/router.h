@@ -13,10 +13,11 @@
  * LINKING
  *
  * `rt staticlib router` proves the library and writes target/staticlib/librouter.a with router_fresh, router_control,
- * router_tick and router_display; `rt staticlib service` does so for target/staticlib/libservice.a with router_fault,
- * router_queues_fill, router_queues_control and router_queues_tick. A board links the first alone; neither needs the
- * other, and a program may link both. They are code for Linux on any x86-64 processor, by the System V calling
- * convention, and need memcpy (the first) and memset, and nothing else: no start-up code, no heap, no other function.
+ * router_tick, router_display and router_version; `rt staticlib service` does so for target/staticlib/libservice.a with
+ * router_fault, router_queues_fill, router_queues_control, router_queues_tick and service_version. A board links the
+ * first alone; neither needs the other, and a program may link both. They are code for Linux on any x86-64 processor,
+ * by the System V calling convention, and need memcpy (the first) and memset, and nothing else: no start-up code, no
+ * heap, no other function.
  * docs/BENCH.md has the stack of each call.
  * The kit compiles for no other target. For another processor there are host/plain.c and host/plain_queues.c, the same
  * entries in C99 (under these names by host/self.c and host/self_queues.c): they are tested against these archives byte
@@ -35,10 +36,10 @@
  *
  * ANSWERS AND REFUSALS
  *
- * Each call but router_display returns one number: ROUTER_ACCEPTED (0), or the number of the first question, in the
- * order of the list "Numbers" below, that the call does not pass; router_fault can add a slot to it. A refused call
- * changes nothing: each byte of each area is as it was, outgoing packets and answers included. The number and every
- * byte of every area after a call depend on nothing but the numbers and the bytes handed over.
+ * Each call but router_display and those of the versions returns one number: ROUTER_ACCEPTED (0), or the number of the
+ * first question, in the order of the list "Numbers" below, that the call does not pass; router_fault can add a slot to
+ * it. A refused call changes nothing: each byte of each area is as it was, outgoing packets and answers included. The
+ * number and every byte of every area after a call depend on nothing but the numbers and the bytes handed over.
  *
  *
  * TIMES
@@ -67,12 +68,12 @@ extern "C" {
 #endif
 
 /*
- * The version of the header and of the library it describes, to be compared by #if. The first number changes with what
+ * The version of the header and of the archives it describes, to be compared by #if. The first number changes with what
  * a call does, returns or needs, or with the layout of an area, so that a caller has to look; the second with what is
- * only added; the third with anything else.
+ * only added; the third with anything else. router_version and service_version tell it of the archives at run time.
  */
 #define ROUTER_VERSION_MAJOR 3
-#define ROUTER_VERSION_MINOR 0
+#define ROUTER_VERSION_MINOR 1
 #define ROUTER_VERSION_PATCH 0
 #define ROUTER_VERSION (ROUTER_VERSION_MAJOR * 10000 + ROUTER_VERSION_MINOR * 100 + ROUTER_VERSION_PATCH)
 
@@ -267,6 +268,18 @@ uint8_t router_tick(uint8_t *state, size_t state_len,
  *         show(outgoing + start, ROUTER_DATA_LEN);
  */
 size_t router_display(const uint8_t *outgoing, size_t outgoing_len, uint8_t port);
+
+/*
+ * router_version, of librouter.a, and service_version, of libservice.a, tell of which version the archive is that was
+ * linked, as ROUTER_VERSION tells it of the header. They read and change nothing. An archive has all that this header
+ * describes if its first number is the header's and it is not older; an archive older than 3.1.0 has no such function,
+ * and the program doesn't link. So a program asks once, at start-up, of each archive that it links:
+ *
+ *     if (router_version() / 10000 != ROUTER_VERSION_MAJOR || router_version() < ROUTER_VERSION)
+ *         stop("librouter.a is not the one of this router.h");
+ */
+uint32_t router_version(void);
+uint32_t service_version(void);
 
 /*
  * router_fault, of libservice.a, says which part of a state and its memory is not sound.

@@ -4,7 +4,9 @@ ghost use lib.ListN.{take, drop};
 ghost use Rattle.rules.specs.Areas.{numberReply, Outcome, Store};
 ghost use Rattle.rules.specs.Board.{board8};
 ghost use Rattle.rules.specs.Questions.{makeFresh, controlWrite, tick};
+ghost use Rattle.layout.specs.Version.{version};
 ghost use Rattle.display.specs.Display.{display, displayStart};
+use layout::Router;
 
 // Makes state and memory those of a fresh router.
 #[no_mangle]
@@ -77,4 +79,12 @@ pub extern "C" fn router_display(outgoing: &[u8], port: u8) -> usize
     ensures part { λ r. ⌜ take 18 (drop r (now (outgoing .entry))) ≡ display 1 (now (outgoing .entry)) port ⌝ }
 {
     display::start(outgoing, port)
+}
+
+// The version of this archive.
+#[no_mangle]
+pub extern "C" fn router_version() -> u32
+    ensures { λ r. ⌜ r ≡ version ⌝ }
+{
+    Router::VERSION
 }

@@ -3,9 +3,11 @@ ghost use mathlib.Core.Path.{_≡_};
 ghost use Rattle.rules.specs.Areas.{numberReply, Outcome};
 ghost use Rattle.rules.specs.Board.{board8};
 ghost use Rattle.rules.specs.Questions.{serviceFault};
+ghost use Rattle.layout.specs.Version.{version};
 ghost use Rattle.passes.specs.Stores.{store};
 ghost use Rattle.queues.specs.Engine.{Bench, fill, control, tick};
 use layout::Refusal;
+use layout::Router;
 
 // Names the fault of a state, which it only reads; of stored packets the lowest bad slot with it.
 #[no_mangle]
@@ -110,4 +112,12 @@ pub extern "C" fn router_queues_tick(
         waiting,
     );
     n
+}
+
+// The version of this archive.
+#[no_mangle]
+pub extern "C" fn service_version() -> u32
+    ensures { λ r. ⌜ r ≡ version ⌝ }
+{
+    Router::VERSION
 }
