@@ -2,9 +2,10 @@
 # archive.sh - prints the path of the archive to link: the given one, or the plain implementation under the router's
 # names, or, where none is given, the crate's own, which it has proved and built.
 # usage: archive.sh FOLDER [ARCHIVE|plain|'' [CRATE]]   (FOLDER: for what is built on the way; CRATE: router, or service
-# for the service entries)
+# for the service entries); SANITIZE: see flags.sh, for the plain implementation
 set -eu
 here=$(cd "$(dirname "$0")" && pwd)
+. "$here/flags.sh"
 crate=${3:-router}
 case ${2:-} in
 '')
@@ -18,7 +19,7 @@ plain)
     router) source=self ;;
     service) source=self_queues ;;
     esac
-    gcc -std=c99 -Wall -Wextra -Wpedantic -Werror -O2 -I"$here/../include" -c "$here/$source.c" -o "$1/$source.o"
+    gcc -std=c99 $strict -O2 -I"$here/../include" -c "$here/$source.c" -o "$1/$source.o"
     ar rcs "$1/lib$crate.a" "$1/$source.o"
     echo "$1/lib$crate.a"
     ;;

@@ -2,7 +2,7 @@
  * bench.c - runs the router, the service entries and the plain implementations (gcc -O2 and -O3) through like calls;
  * bench.sh makes the tables from it.
  *   bench count IMPLEMENTATION SCENARIO REPEATS   repeats the call, for an instruction count from outside
- *   bench wall                                    prints nanoseconds per call, the implementations alternating
+ *   bench wall ROUNDS                             prints nanoseconds per call, the implementations alternating
  *   bench stack                                   prints the bytes of stack that a call writes
  *   bench names router|engine|fault               prints the scenarios of one of them
  */
@@ -15,6 +15,7 @@
 #include <ucontext.h>
 
 #include "entries.h"
+#include "fields.h"
 
 fresh_form plain_o2_fresh, plain_o3_fresh;
 control_form plain_o2_control, plain_o3_control;
@@ -147,7 +148,7 @@ static uint8_t first_state[ROUTER_STATE_LEN], first_memory[ROUTER_MEMORY_LEN], f
 /* Stores packet s as the next one: by turns on time and early in a busy tick and for a fill, early in all others. */
 static void store(enum kind kind, unsigned s)
 {
-    uint8_t *slot = first_state + ROUTER_STATE_SLOTS + ROUTER_SLOT_LEN * s;
+    uint8_t *slot = first_state + slot_at(s);
     uint8_t deadline;
 
     if ((kind == BUSY || kind == FILL) && s % 2 == 0)
@@ -166,10 +167,9 @@ static void prepare(const struct scenario *scenario)
     plain_o2_fresh(first_state, sizeof first_state, first_memory, sizeof first_memory, CLOCK);
     for (unsigned s = 0; s < scenario->stored; s++)
         store(scenario->kind, s);
-    first_state[ROUTER_STATE_FREE] = (uint8_t)((ROUTER_SLOTS - scenario->stored) >> 8);
-    first_state[ROUTER_STATE_FREE + 1] = (uint8_t)(ROUTER_SLOTS - scenario->stored);
+    set_free_count(first_state, ROUTER_SLOTS - scenario->stored);
     for (unsigned p = 0; p < ROUTER_PORTS; p++) {
-        uint8_t *entry = first_state + ROUTER_STATE_TABLE + ROUTER_ENTRY_LEN * (CONNECTION + p);
+        uint8_t *entry = first_state + entry_at(CONNECTION + p);
 
         entry[ROUTER_ENTRY_OUT_ID] = (uint8_t)p;
         entry[ROUTER_ENTRY_DELAY] = DELAY;
@@ -256,15 +256,15 @@ static double now(void)
 }
 
 /* The least time per call of several rounds; the implementations take turns within a round. */
-static void wall(void)
+static void wall(long rounds)
 {
-    enum { ROUNDS = 40, CALLS = 200 };
+    enum { CALLS = 200 };
 
     for (unsigned s = 0; s < SCENARIOS; s++) {
         double least[IMPLEMENTATIONS] = {0};
 
         prepare(&scenarios[s]);
-        for (unsigned round = 0; round < ROUNDS; round++) {
+        for (long round = 0; round < rounds; round++) {
             for (unsigned i = 0; i < IMPLEMENTATIONS; i++) {
                 double start = now(), taken;
 
@@ -351,8 +351,8 @@ int main(int argc, char **argv)
 {
     if (argc == 5 && strcmp(argv[1], "count") == 0)
         return count(argv[2], argv[3], strtol(argv[4], NULL, 10));
-    if (argc == 2 && strcmp(argv[1], "wall") == 0) {
-        wall();
+    if (argc == 3 && strcmp(argv[1], "wall") == 0) {
+        wall(strtol(argv[2], NULL, 10));
         return EXIT_SUCCESS;
     }
     if (argc == 2 && strcmp(argv[1], "stack") == 0) {
@@ -366,7 +366,7 @@ int main(int argc, char **argv)
         }
         return EXIT_SUCCESS;
     }
-    fprintf(stderr, "usage: bench count IMPLEMENTATION SCENARIO REPEATS | wall | stack |\n"
+    fprintf(stderr, "usage: bench count IMPLEMENTATION SCENARIO REPEATS | wall ROUNDS | stack |\n"
                     "       names router|engine|fault\n");
     return EXIT_FAILURE;
 }

@@ -2,14 +2,18 @@
 # bench.sh - prints three tables: the router of an archive beside the plain implementation; the queue engine of another
 # beside the plain one and the router, which is its comparator; and router_fault beside the plain one and the questions
 # of a call.
-# usage: bench.sh [ARCHIVE|plain [SERVICE-ARCHIVE|plain]]   (as for run.sh); LIBS: more to link. Needs valgrind, which
-# counts the instructions.
+# usage: bench.sh [once] [ARCHIVE|plain [SERVICE-ARCHIVE|plain]]   (as for run.sh); LIBS: more to link. Needs valgrind,
+# which counts the instructions.
+# once: runs each row of the tables and counts nothing, without valgrind; SANITIZE=yes: with sanitizers (flags.sh).
 set -eu
 here=$(cd "$(dirname "$0")" && pwd)
-command -v valgrind > /dev/null || { echo "bench.sh: there is no valgrind" >&2; exit 1; }
+. "$here/flags.sh"
+once=no
+[ "${1:-}" != once ] || { once=yes && shift; }
+[ $once = yes ] || command -v valgrind > /dev/null || { echo "bench.sh: there is no valgrind" >&2; exit 1; }
 build=$(mktemp -d)
 trap 'rm -rf "$build"' EXIT
-cflags="-std=c99 -Wall -Wextra -Wpedantic -Werror -I$here/../include -I$here"
+cflags="-std=c99 $strict -I$here/../include -I$here"
 libs=${LIBS:-}
 given=${1:-}
 service_given=${2:-}
@@ -20,7 +24,7 @@ engine_entries="queues_fill queues_control queues_tick"
 # compile LEVEL SOURCE: makes an object of a plain implementation with other names.
 compile() {
     names=
-    for entry in $router_entries display fault $engine_entries; do
+    for entry in $router_entries display version fault $engine_entries service_version; do
         names="$names -Dplain_$entry=plain_o$1_$entry"
     done
     gcc $cflags -O$1 -fstack-usage -ffunction-sections $names -c "$here/$2.c" -o "$build/$2_o$1.o"
@@ -33,6 +37,19 @@ archive=$(sh "$here/archive.sh" "$build" "$given")
 service=$(sh "$here/archive.sh" "$build" "$service_given" service)
 gcc $cflags -O2 "$here/bench.c" "$build"/plain_o?.o "$build"/plain_queues_o?.o "$service" "$archive" $libs -Wl,-z,now \
     -o "$build/bench"
+
+if [ $once = yes ]; then
+    for subject in router engine fault; do
+        for scenario in $("$build/bench" names $subject); do
+            for implementation in none ours O2 O3; do
+                "$build/bench" count $implementation "$scenario" 1
+            done
+        done
+    done
+    "$build/bench" wall 1 > /dev/null
+    "$build/bench" stack > /dev/null
+    exit
+fi
 
 # total IMPLEMENTATION SCENARIO REPEATS: instructions of a whole run.
 total() {
@@ -137,7 +154,7 @@ beside() {
     done
 }
 
-"$build/bench" wall > "$build/wall"
+"$build/bench" wall 40 > "$build/wall"
 "$build/bench" stack > "$build/stack"
 : > "$build/counted"
 

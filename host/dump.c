@@ -9,21 +9,6 @@
 
 uint8_t state[ROUTER_STATE_LEN], memory[ROUTER_MEMORY_LEN];
 
-unsigned free_count(void)
-{
-    return state[ROUTER_STATE_FREE] * 256u + state[ROUTER_STATE_FREE + 1];
-}
-
-const uint8_t *slot_at(unsigned s)
-{
-    return state + ROUTER_STATE_SLOTS + ROUTER_SLOT_LEN * s;
-}
-
-const uint8_t *packet_at(unsigned s)
-{
-    return memory + ROUTER_PACKET_LEN * s;
-}
-
 void stop(const char *format, ...)
 {
     va_list list;

@@ -7,14 +7,10 @@
 
 #include <stdio.h>
 
-#include "router.h"
+#include "fields.h"
 
 /* The router. */
 extern uint8_t state[ROUTER_STATE_LEN], memory[ROUTER_MEMORY_LEN];
-
-unsigned free_count(void);
-const uint8_t *slot_at(unsigned s);
-const uint8_t *packet_at(unsigned s); /* its memory */
 
 /* Of each program: its name, and its exit status where it stops. */
 extern const char *const program;

@@ -57,7 +57,7 @@ static int above(const char *owner, unsigned which, const char *what, uint8_t va
 
 static int entry_above(unsigned c, const char *what, unsigned field, unsigned limit)
 {
-    const uint8_t *entry = state + ROUTER_STATE_TABLE + ROUTER_ENTRY_LEN * c;
+    const uint8_t *entry = state + entry_at(c);
 
     return above("connection", c, what, entry[field], limit, entry, ROUTER_ENTRY_LEN);
 }
@@ -111,18 +111,18 @@ static int entries_differ_from_slots(unsigned n, const uint8_t *marked)
     for (unsigned i = 0; i < n; i++) {
         unsigned s = state[ROUTER_STATE_STACK + i];
 
-        if (slot_at(s)[ROUTER_SLOT_MASK] != 0) {
+        if (state[slot_at(s) + ROUTER_SLOT_MASK] != 0) {
             begin(ROUTER_BAD_STACK, "entry %u of the first %u is slot %u, whose mask is %u, not 0", i, n, s,
-                  slot_at(s)[ROUTER_SLOT_MASK]);
-            show("slot's bytes", slot_at(s), ROUTER_SLOT_LEN);
+                  state[slot_at(s) + ROUTER_SLOT_MASK]);
+            show("slot's bytes", state + slot_at(s), ROUTER_SLOT_LEN);
             end();
             return 1;
         }
     }
     for (unsigned s = 0; s < ROUTER_SLOTS; s++) {
-        if (slot_at(s)[ROUTER_SLOT_MASK] == 0 && !marked[s]) {
+        if (state[slot_at(s) + ROUTER_SLOT_MASK] == 0 && !marked[s]) {
             begin(ROUTER_BAD_STACK, "slot %u has mask 0 and is not among the first %u entries", s, n);
-            show("slot's bytes", slot_at(s), ROUTER_SLOT_LEN);
+            show("slot's bytes", state + slot_at(s), ROUTER_SLOT_LEN);
             end();
             return 1;
         }
@@ -132,7 +132,7 @@ static int entries_differ_from_slots(unsigned n, const uint8_t *marked)
 
 static int stack_fault(void)
 {
-    unsigned n = free_count();
+    unsigned n = free_count(state);
     uint8_t marked[ROUTER_SLOTS] = {0};
 
     if (n > ROUTER_SLOTS) {
@@ -148,7 +148,7 @@ static int stack_fault(void)
 
 static int packet_fault(unsigned s)
 {
-    const uint8_t *slot = slot_at(s), *packet = packet_at(s);
+    const uint8_t *slot = state + slot_at(s), *packet = memory + ROUTER_PACKET_LEN * s;
     unsigned time = slot[ROUTER_SLOT_TIME], deadline = slot[ROUTER_SLOT_DEADLINE], mask = slot[ROUTER_SLOT_MASK];
     unsigned clock = state[ROUTER_STATE_CLOCK], ahead = (uint8_t)(time - clock);
     int d = (uint8_t)(deadline - time), offset = ahead < 128 ? (int)ahead : (int)ahead - 256;
@@ -198,7 +198,7 @@ int main(int argc, char **argv)
     take_dump(argv[1]);
     fault = router_fault(state, sizeof state, memory, sizeof memory);
     if (fault == ROUTER_ACCEPTED)
-        printf("sound: %u packets stored, %u slots free.\n", ROUTER_SLOTS - free_count(), free_count());
+        printf("sound: %u packets stored, %u slots free.\n", ROUTER_SLOTS - free_count(state), free_count(state));
     else if (!say(fault))
         stop("%s: router_fault tells number %u, slot %u, and the dump has no such fault", argv[1],
              ROUTER_FAULT_NUMBER(fault), ROUTER_FAULT_SLOT(fault));

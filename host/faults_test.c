@@ -3,7 +3,7 @@
  * the router, those of the queue engine, and router_fault, which names a slot too. Every clause of soundness is broken
  * alone and in pairs, and kept at its limit; the numbers expected are those of document 02, request [2], in the table
  * of ways below.
- *   faults_test [SEED]
+ *   faults_test [SEED [SHARE]]   (SHARE: of the random rounds one in so many)
  */
 
 #include <stdio.h>
@@ -113,12 +113,12 @@ static uint8_t *const stack = area[STATE] + ROUTER_STATE_STACK;
 
 static void entry_delay(const struct place *at)
 {
-    entry_at(state, at->connection)[ROUTER_ENTRY_DELAY] = (uint8_t)edgy(128, 255);
+    state[entry_at(at->connection) + ROUTER_ENTRY_DELAY] = (uint8_t)edgy(128, 255);
 }
 
 static void entry_mask(const struct place *at)
 {
-    entry_at(state, at->connection)[ROUTER_ENTRY_MASK] = (uint8_t)edgy(32, 255);
+    state[entry_at(at->connection) + ROUTER_ENTRY_MASK] = (uint8_t)edgy(32, 255);
 }
 
 static void horizon(const struct place *at)
@@ -147,25 +147,25 @@ static void register_4(const struct place *at)
 static void count_above(const struct place *at)
 {
     (void)at;
-    set_free_count((unsigned)edgy(257, 65535));
+    set_free_count(state, (unsigned)edgy(257, 65535));
 }
 
 static void count_less(const struct place *at)
 {
     (void)at;
-    set_free_count(free_count(state) - 1);
+    set_free_count(state, free_count(state) - 1);
 }
 
 static void count_more_idle(const struct place *at)
 {
     stack[free_count(state)] = stack[at->entry];
-    set_free_count(free_count(state) + 1);
+    set_free_count(state, free_count(state) + 1);
 }
 
 static void count_more_stored(const struct place *at)
 {
     stack[free_count(state)] = (uint8_t)at->slot;
-    set_free_count(free_count(state) + 1);
+    set_free_count(state, free_count(state) + 1);
 }
 
 static void entry_twice(const struct place *at)
@@ -180,7 +180,7 @@ static void stored_on_stack(const struct place *at)
 
 static void idle_missing(const struct place *at)
 {
-    slot_at(state, at->slot)[ROUTER_SLOT_MASK] = 0;
+    state[slot_at(at->slot) + ROUTER_SLOT_MASK] = 0;
 }
 
 static void packet_in_idle(const struct place *at)
@@ -190,12 +190,12 @@ static void packet_in_idle(const struct place *at)
 
 static void mask_of_idle(const struct place *at)
 {
-    slot_at(state, stack[at->entry])[ROUTER_SLOT_MASK] = (uint8_t)edgy(32, 255);
+    state[slot_at(stack[at->entry]) + ROUTER_SLOT_MASK] = (uint8_t)edgy(32, 255);
 }
 
 static void slot_mask(const struct place *at)
 {
-    slot_at(state, at->slot)[ROUTER_SLOT_MASK] = (uint8_t)edgy(32, 255);
+    state[slot_at(at->slot) + ROUTER_SLOT_MASK] = (uint8_t)edgy(32, 255);
 }
 
 static void slot_delay(const struct place *at)
@@ -259,7 +259,7 @@ static unsigned stored_slot(unsigned k)
     unsigned s = 0;
 
     for (; s < ROUTER_SLOTS - 1; s++) {
-        if (slot_at(state, s)[ROUTER_SLOT_MASK] != 0 && k-- == 0)
+        if (state[slot_at(s) + ROUTER_SLOT_MASK] != 0 && k-- == 0)
             break;
     }
     return s;
@@ -336,7 +336,7 @@ static void test_pairs(void)
 {
     for (unsigned one = 0; one < WAYS; one++) {
         for (unsigned two = one; two < WAYS; two++) {
-            for (unsigned round = 0; round < PAIR_ROUNDS; round++) {
+            for (unsigned round = 0; round < rounds(PAIR_ROUNDS); round++) {
                 if (!ways[one].counts || !ways[two].counts)
                     break_both(&ways[one], &ways[two]);
             }
@@ -353,7 +353,7 @@ static void test_several(void)
     while (of_packets->number != PACKETS)
         of_packets++;
     ways_of_packets = (unsigned)(ways + WAYS - of_packets);
-    for (unsigned round = 0; round < SEVERAL_ROUNDS; round++) {
+    for (unsigned round = 0; round < rounds(SEVERAL_ROUNDS); round++) {
         unsigned stored = (unsigned)edgy(1, ROUTER_SLOTS), percent = below(101);
         unsigned sure, lowest = ROUTER_SLOTS;
 
@@ -362,7 +362,7 @@ static void test_several(void)
         for (unsigned s = ROUTER_SLOTS; s-- > 0;) {
             struct place at = {0, 0, 0, 0, s};
 
-            if (slot_at(state, s)[ROUTER_SLOT_MASK] == 0 || (s != sure && !chance(percent)))
+            if (state[slot_at(s) + ROUTER_SLOT_MASK] == 0 || (s != sure && !chance(percent)))
                 continue;
             of_packets[below(ways_of_packets)].break_at(&at);
             lowest = s;
@@ -383,7 +383,7 @@ static void test_sound(void)
         ask(ALL, "a fresh router", SOUND);
     }
     for (unsigned stored = 0; stored <= ROUTER_SLOTS; stored++) {
-        for (unsigned round = 0; round < SOUND_ROUNDS; round++) {
+        for (unsigned round = 0; round < rounds(SOUND_ROUNDS); round++) {
             make_base(stored);
             ask(ALL, "a sound state", SOUND);
         }
@@ -411,11 +411,11 @@ static void test_settings(void)
         sweep("register 1", state + ROUTER_STATE_DELAY, 127);
         sweep("register 2", state + ROUTER_STATE_MASK, 31);
         sweep("register 4", state + ROUTER_STATE_PORTS, 31);
-        sweep("d of an entry", entry_at(state, connection) + ROUTER_ENTRY_DELAY, 127);
-        sweep("mask of an entry", entry_at(state, connection) + ROUTER_ENTRY_MASK, 31);
+        sweep("d of an entry", state + entry_at(connection) + ROUTER_ENTRY_DELAY, 127);
+        sweep("mask of an entry", state + entry_at(connection) + ROUTER_ENTRY_MASK, 31);
         for (unsigned c = 0; c < ROUTER_CONNECTIONS; c++) {
-            entry_at(state, c)[ROUTER_ENTRY_DELAY] = 127;
-            entry_at(state, c)[ROUTER_ENTRY_MASK] = 31;
+            state[entry_at(c) + ROUTER_ENTRY_DELAY] = 127;
+            state[entry_at(c) + ROUTER_ENTRY_MASK] = 31;
             ask(some(), "largest d and mask of an entry", SOUND);
         }
     }
@@ -432,16 +432,16 @@ static void test_stack(void)
         idle = stack[below(n)];
         s = stored_slot(below(ROUTER_SLOTS - n));
         for (unsigned mask = 0; mask < 256; mask++) {
-            slot_at(state, idle)[ROUTER_SLOT_MASK] = (uint8_t)mask;
+            state[slot_at(idle) + ROUTER_SLOT_MASK] = (uint8_t)mask;
             ask(ALL, "mask of an idle slot", mask == 0 ? SOUND : STACK);
-            slot_at(state, s)[ROUTER_SLOT_MASK] = (uint8_t)mask;
+            state[slot_at(s) + ROUTER_SLOT_MASK] = (uint8_t)mask;
             ask(ALL, "mask of a stored slot", mask == 0 ? STACK : mask <= 31 ? SOUND : packets_fault(s));
         }
         for (unsigned count = 0; count <= 65535; count += count < 1024 ? 1 : 1 + below(64)) {
-            set_free_count(count);
+            set_free_count(state, count);
             ask(some(), "free count", count == n ? SOUND : STACK);
         }
-        set_free_count(65535);
+        set_free_count(state, 65535);
         ask(ALL, "free count 65535", STACK);
     }
 }
@@ -461,14 +461,14 @@ static void test_packet(void)
     }
     for (unsigned byte = 0; byte < 256; byte++) {
         stored_at(s)[ROUTER_PACKET_TIME] = (uint8_t)byte;
-        ask(ALL, "byte 1 in memory", byte == slot_at(state, s)[ROUTER_SLOT_DEADLINE] ? SOUND : packets_fault(s));
+        ask(ALL, "byte 1 in memory", byte == state[slot_at(s) + ROUTER_SLOT_DEADLINE] ? SOUND : packets_fault(s));
     }
 }
 
 /* Bytes that no clause names may be anything: those of empty slots and of their memory among them. */
 static void test_free(void)
 {
-    for (unsigned round = 0; round < FREE_ROUNDS; round++) {
+    for (unsigned round = 0; round < rounds(FREE_ROUNDS); round++) {
         unsigned n;
 
         if (round % 50 == 0)
@@ -477,9 +477,9 @@ static void test_free(void)
         random_bytes(stack + n, ROUTER_SLOTS - n);
         state[ROUTER_STATE_OUT_ID] = random_byte();
         for (unsigned s = 0; s < ROUTER_SLOTS; s++) {
-            uint8_t *slot = slot_at(state, s), *packet = stored_at(s);
+            uint8_t *slot = state + slot_at(s), *packet = stored_at(s);
 
-            entry_at(state, s)[ROUTER_ENTRY_OUT_ID] = random_byte();
+            state[entry_at(s) + ROUTER_ENTRY_OUT_ID] = random_byte();
             packet[ROUTER_PACKET_ID] = random_byte();
             packet[ROUTER_PACKET_DATA + below(ROUTER_DATA_LEN)] = random_byte();
             if (slot[ROUTER_SLOT_MASK] == 0) {
@@ -500,7 +500,7 @@ static void test_damaged(void)
     struct call c = make_call(FAULT, 0, 0);
     unsigned fault;
 
-    for (unsigned round = 0; round < DAMAGED_ROUNDS; round++) {
+    for (unsigned round = 0; round < rounds(DAMAGED_ROUNDS); round++) {
         if (round % 50 == 0)
             make_base(below(257));
         damage(chance(50) ? 1 : 2 + below(20));

@@ -63,6 +63,15 @@ void random_bytes(uint8_t *bytes, size_t len)
         bytes[i] = random_byte();
 }
 
+/* ---- Rounds ---- */
+
+static unsigned share = 1;
+
+unsigned rounds(unsigned all)
+{
+    return all / share;
+}
+
 /* ---- Sections ---- */
 
 static sigjmp_buf section_end;
@@ -91,18 +100,18 @@ void section(const char *name, void (*run)(void))
 {
     clock_t start = clock();
     unsigned long first = calls;
-    int ok = sigsetjmp(section_end, 1) == 0;
+    const char *word;
 
-    if (ok) {
+    if (sigsetjmp(section_end, 1) == 0) {
         random_state = seed * 1000 + passed + failed;
         run();
-    }
-    if (ok)
         passed++;
-    else
+        word = "ok  ";
+    } else {
         failed++;
-    printf("%s %-46s %8lu calls %5.1f s\n", ok ? "ok  " : "FAIL", name, calls - first,
-           (double)(clock() - start) / CLOCKS_PER_SEC);
+        word = "FAIL";
+    }
+    printf("%s %-46s %8lu calls %5.1f s\n", word, name, calls - first, (double)(clock() - start) / CLOCKS_PER_SEC);
     fflush(stdout);
 }
 
@@ -184,27 +193,6 @@ void come_back(void)
         if ((KEPT >> i & 1) != 0)
             memcpy(area[i], kept[i], area_len[i]);
     }
-}
-
-unsigned free_count(const uint8_t *bytes)
-{
-    return bytes[ROUTER_STATE_FREE] * 256u + bytes[ROUTER_STATE_FREE + 1];
-}
-
-void set_free_count(unsigned n)
-{
-    state[ROUTER_STATE_FREE] = (uint8_t)(n / 256);
-    state[ROUTER_STATE_FREE + 1] = (uint8_t)(n % 256);
-}
-
-uint8_t *slot_at(uint8_t *bytes, unsigned s)
-{
-    return bytes + ROUTER_STATE_SLOTS + ROUTER_SLOT_LEN * s;
-}
-
-uint8_t *entry_at(uint8_t *bytes, unsigned connection)
-{
-    return bytes + ROUTER_STATE_TABLE + ROUTER_ENTRY_LEN * connection;
 }
 
 uint8_t *stored_at(unsigned s)
@@ -419,13 +407,13 @@ static int ticks_to(int time, int t)
     return time < t ? time - t + 256 : time - t;
 }
 
-unsigned see_slots(uint8_t *bytes, struct seen *seen)
+unsigned see_slots(const uint8_t *bytes, struct seen *seen)
 {
     int t = bytes[ROUTER_STATE_CLOCK];
     unsigned n = 0;
 
     for (unsigned s = 0; s < ROUTER_SLOTS; s++) {
-        const uint8_t *slot = slot_at(bytes, s);
+        const uint8_t *slot = bytes + slot_at(s);
         uint8_t time = slot[ROUTER_SLOT_TIME], deadline = slot[ROUTER_SLOT_DEADLINE];
         int offset = offset_of(time, t);
 
@@ -497,7 +485,7 @@ void put_arrival(unsigned port, unsigned connection, int offset)
 
 void put_stored(unsigned s, int offset, unsigned d, unsigned mask)
 {
-    uint8_t *slot = slot_at(state, s);
+    uint8_t *slot = state + slot_at(s);
 
     slot[ROUTER_SLOT_TIME] = (uint8_t)(state[ROUTER_STATE_CLOCK] + offset);
     slot[ROUTER_SLOT_DEADLINE] = (uint8_t)(slot[ROUTER_SLOT_TIME] + d);
@@ -507,7 +495,7 @@ void put_stored(unsigned s, int offset, unsigned d, unsigned mask)
 
 void make_sound(unsigned stored)
 {
-    uint8_t order[ROUTER_SLOTS];
+    uint8_t order[ROUTER_SLOTS] = {0};
     int spread = edgy(0, 126);
 
     random_bytes(state, ROUTER_STATE_LEN);
@@ -518,8 +506,8 @@ void make_sound(unsigned stored)
     state[ROUTER_STATE_MASK] &= ROUTER_MASK_MAX;
     state[ROUTER_STATE_PORTS] &= ROUTER_MASK_MAX;
     for (unsigned c = 0; c < ROUTER_CONNECTIONS; c++) {
-        entry_at(state, c)[ROUTER_ENTRY_DELAY] &= ROUTER_DELAY_MAX;
-        entry_at(state, c)[ROUTER_ENTRY_MASK] &= ROUTER_MASK_MAX;
+        state[entry_at(c) + ROUTER_ENTRY_DELAY] &= ROUTER_DELAY_MAX;
+        state[entry_at(c) + ROUTER_ENTRY_MASK] &= ROUTER_MASK_MAX;
     }
     for (unsigned s = 0; s < ROUTER_SLOTS; s++) {
         unsigned other = below(s + 1);
@@ -527,10 +515,10 @@ void make_sound(unsigned stored)
         order[s] = order[other];
         order[other] = (uint8_t)s;
     }
-    set_free_count(ROUTER_SLOTS - stored);
+    set_free_count(state, ROUTER_SLOTS - stored);
     for (unsigned i = 0; i < ROUTER_SLOTS - stored; i++) {
         state[ROUTER_STATE_STACK + i] = order[i];
-        slot_at(state, order[i])[ROUTER_SLOT_MASK] = 0;
+        state[slot_at(order[i]) + ROUTER_SLOT_MASK] = 0;
     }
     for (unsigned i = ROUTER_SLOTS - stored; i < ROUTER_SLOTS; i++) {
         int d = edgy(0, ROUTER_DELAY_MAX);
@@ -574,13 +562,13 @@ void make_tied(const struct regime *r, unsigned stored)
 
     make_sound(stored);
     for (unsigned c = 0; c < ROUTER_CONNECTIONS; c++) {
-        entry_at(state, c)[ROUTER_ENTRY_DELAY] = (uint8_t)edgy(low, high);
-        entry_at(state, c)[ROUTER_ENTRY_MASK] = (uint8_t)ports;
+        state[entry_at(c) + ROUTER_ENTRY_DELAY] = (uint8_t)edgy(low, high);
+        state[entry_at(c) + ROUTER_ENTRY_MASK] = (uint8_t)ports;
     }
     for (unsigned s = 0; s < ROUTER_SLOTS; s++) {
         int d = edgy(low, high), offset = shared_offset(r, state[ROUTER_STATE_CLOCK], d);
 
-        if (slot_at(state, s)[ROUTER_SLOT_MASK] != 0)
+        if (state[slot_at(s) + ROUTER_SLOT_MASK] != 0)
             put_stored(s, offset > 126 ? offset - SHARED_EVERY : offset, (unsigned)d, ports);
     }
 }
@@ -605,11 +593,11 @@ static int random_offset(const struct regime *r, uint8_t t, int d)
     }
 }
 
-int random_arrival(const struct regime *r, uint8_t *router, uint8_t *packet)
+int random_arrival(const struct regime *r, const uint8_t *bytes, uint8_t *packet)
 {
     unsigned connection = chance(r->odd) ? random_byte() : below(r->connections);
-    uint8_t t = router[ROUTER_STATE_CLOCK];
-    int offset = random_offset(r, t, entry_at(router, connection)[ROUTER_ENTRY_DELAY]);
+    uint8_t t = bytes[ROUTER_STATE_CLOCK];
+    int offset = random_offset(r, t, bytes[entry_at(connection) + ROUTER_ENTRY_DELAY]);
 
     random_bytes(packet, ROUTER_PACKET_LEN);
     packet[ROUTER_PACKET_ID] = (uint8_t)connection;
@@ -785,6 +773,11 @@ void start(int argc, char **argv)
     struct sigaction action;
 
     seed = argc > 1 ? strtoull(argv[1], NULL, 10) : DEFAULT_SEED;
+    share = argc > 2 ? (unsigned)strtoul(argv[2], NULL, 10) : 1;
+    if (share == 0) {
+        fprintf(stderr, "usage: %s [SEED [SHARE]], and a share is 1 or more\n", argv[0]);
+        exit(EXIT_FAILURE);
+    }
     memset(&action, 0, sizeof action);
     action.sa_sigaction = on_fault;
     action.sa_flags = SA_SIGINFO | SA_NODEFER;

@@ -9,6 +9,7 @@
 #define HARNESS_H
 
 #include "entries.h"
+#include "fields.h"
 
 /* ---- Random numbers ---- */
 
@@ -23,8 +24,11 @@ void random_bytes(uint8_t *bytes, size_t len);
 
 extern unsigned long calls; /* of the implementation under test */
 
-/* Takes the seed from the arguments, and makes the areas. */
+/* Takes the seed, and the share of the random rounds that is to run, from the arguments, and makes the areas. */
 void start(int argc, char **argv);
+
+/* So many random rounds, or of these one in as many as the share says. */
+unsigned rounds(unsigned all);
 
 /* Runs a part of the test, which ends at its end or at its first failure; prints its line. */
 void section(const char *name, void (*run)(void));
@@ -63,10 +67,6 @@ extern uint8_t *const state, *const memory, *const answers, *const queues;
 void keep(void);
 void come_back(void);
 
-unsigned free_count(const uint8_t *bytes);
-void set_free_count(unsigned n);
-uint8_t *slot_at(uint8_t *bytes, unsigned s);
-uint8_t *entry_at(uint8_t *bytes, unsigned connection);
 uint8_t *stored_at(unsigned s);
 uint8_t *arrival_at(unsigned port);
 unsigned withdrawn_at(const uint8_t *bytes, unsigned port);
@@ -125,7 +125,7 @@ struct seen {
 };
 
 /* The stored slots of a state, the lowest first; says how many. */
-unsigned see_slots(uint8_t *bytes, struct seen *seen);
+unsigned see_slots(const uint8_t *bytes, struct seen *seen);
 
 /* Below 0 if the packet goes before the other, as qsort wants it: on time, least key, least second key, lowest slot. */
 int in_order(const void *one, const void *other);
@@ -179,7 +179,7 @@ uint8_t random_mask(unsigned percent);
 void random_control(const struct regime *r, uint8_t *reg, uint8_t *value);
 
 /* Puts a random packet into the arrivals of the router with this state; says its offset. */
-int random_arrival(const struct regime *r, uint8_t *router, uint8_t *packet);
+int random_arrival(const struct regime *r, const uint8_t *bytes, uint8_t *packet);
 void random_arrivals(const struct regime *r); /* one for each port of `area` */
 
 /* A control write or a tick. */

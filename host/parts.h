@@ -1,34 +1,17 @@
 /*
- * parts.h - what the plain implementations of the router and of the service entries share: fields of the state, the
- * questions, control writes, the order of packets, and those steps of a tick that choose nothing.
+ * parts.h - what the plain implementations of the router and of the service entries share: the questions, control
+ * writes, the order of packets, and those steps of a tick that choose nothing.
  */
 #ifndef PARTS_H
 #define PARTS_H
 
 #include <string.h>
 
-#include "router.h"
+#include "fields.h"
 
 /* The offset of an arriving packet is at most 127, and one tick later that of a stored one at most 126. */
 #define OFFSET_MAX 127u
 #define STORED_OFFSET_MAX 126u
-
-static unsigned free_count(const uint8_t *state)
-{
-    return (unsigned)state[ROUTER_STATE_FREE] << 8 | state[ROUTER_STATE_FREE + 1];
-}
-
-static void set_free_count(uint8_t *state, unsigned n)
-{
-    state[ROUTER_STATE_FREE] = (uint8_t)(n >> 8);
-    state[ROUTER_STATE_FREE + 1] = (uint8_t)n;
-}
-
-/* Where slot s starts in the state. */
-static size_t slot_at(unsigned s)
-{
-    return ROUTER_STATE_SLOTS + ROUTER_SLOT_LEN * s;
-}
 
 /* ---- Questions 13 to 15: is the state sound? ---- */
 

@@ -2,7 +2,7 @@
  * queues_test.c - compares the queue engine (router_queues_*, from an archive) with the plain one, byte for byte over
  * all areas and numbers and for queues of any content; where the queues are those of the state, with the comparator
  * too (router_control, router_tick), and every queue after a call with a sort of the state's slots.
- *   queues_test [SEED]
+ *   queues_test [SEED [SHARE]]   (SHARE: of the random rounds one in so many)
  */
 
 #include <stdio.h>
@@ -15,6 +15,7 @@
 #define SORTS 2
 
 #define FILLED_ROUNDS 20u     /* for each number of packets */
+#define ORDER_ROUNDS 20000u
 #define LONG_CALLS 200000u
 #define MADE_CALLS 100000u
 #define TIED_CALLS 100000u
@@ -139,9 +140,9 @@ static void count_tick(void)
         for (unsigned n = size_at(on_time); n-- > 0;) {
             unsigned s = on_time[ROUTER_QUEUE_ENTRIES + n];
 
-            moved += slot_at(state, s)[ROUTER_SLOT_TIME] == state[ROUTER_STATE_CLOCK];
+            moved += state[slot_at(s) + ROUTER_SLOT_TIME] == state[ROUTER_STATE_CLOCK];
             occurred[ENTERED_BETWEEN] += n > 0 && n + 1 < size_at(on_time) &&
-                                         slot_at(before[STATE], s)[ROUTER_SLOT_MASK] == 0;
+                                         before[STATE][slot_at(s) + ROUTER_SLOT_MASK] == 0;
         }
         occurred[MOVED_OVER] += moved;
         occurred[ALL_MOVED] += moved >= 200;
@@ -227,7 +228,7 @@ static void scatter_rest(void)
 static void test_fill(void)
 {
     for (unsigned stored = 0; stored <= ROUTER_SLOTS; stored++) {
-        for (unsigned round = 0; round < FILLED_ROUNDS; round++) {
+        for (unsigned round = 0; round < rounds(FILLED_ROUNDS); round++) {
             uint8_t right[ROUTER_QUEUES_LEN];
 
             make_sound(stored);
@@ -263,7 +264,7 @@ static void test_registers(void)
  */
 static void test_order(void)
 {
-    for (unsigned round = 0; round < 20000; round++) {
+    for (unsigned round = 0; round < rounds(ORDER_ROUNDS); round++) {
         unsigned first = random_byte(), second = random_byte();
         uint8_t *queue;
 
@@ -291,8 +292,8 @@ static void test_offsets(void)
         unsigned connection = random_byte();
 
         make_sound(ROUTER_SLOTS);
-        entry_at(state, connection)[ROUTER_ENTRY_DELAY] = (uint8_t)d;
-        entry_at(state, connection)[ROUTER_ENTRY_MASK] = (uint8_t)(1 + below(ROUTER_MASK_MAX));
+        state[entry_at(connection) + ROUTER_ENTRY_DELAY] = (uint8_t)d;
+        state[entry_at(connection) + ROUTER_ENTRY_MASK] = (uint8_t)(1 + below(ROUTER_MASK_MAX));
         for (int k = 0; k < ROUTER_SLOTS; k++, s = (s + 77) % ROUTER_SLOTS)
             put_stored(s, k % (d + 127) - d, (unsigned)d, 1 + below(ROUTER_MASK_MAX));
         expect("fill", fill(), ROUTER_ACCEPTED);
@@ -370,7 +371,7 @@ static void test_long(void)
 {
     struct regime r = random_regime();
 
-    for (unsigned k = 0; k < LONG_CALLS; k++) {
+    for (unsigned k = 0; k < rounds(LONG_CALLS); k++) {
         if (k % 25000 == 0) {
             plain_fresh(state, ROUTER_STATE_LEN, memory, ROUTER_MEMORY_LEN, random_byte());
             expect("fill", fill(), ROUTER_ACCEPTED);
@@ -384,7 +385,7 @@ static void test_long(void)
 /* Short runs from random sound states. */
 static void test_made(void)
 {
-    for (unsigned k = 0; k < MADE_CALLS; k += 20) {
+    for (unsigned k = 0; k < rounds(MADE_CALLS); k += 20) {
         struct regime r = random_regime();
 
         make_filled(chance(20) ? ROUTER_SLOTS - below(6) : below(257));
@@ -397,18 +398,18 @@ static void test_made(void)
 /* Runs in which times, deadlines and ports are few, so that most keys are equal. */
 static void test_ties(void)
 {
-    for (unsigned k = 0; k < TIED_CALLS; k += 40) {
+    for (unsigned k = 0; k < rounds(TIED_CALLS); k += 40) {
         struct regime r = random_regime();
         int offsets = 1 + (int)below(3), delays = 1 + (int)below(3);
         unsigned ports = 1 + below(ROUTER_MASK_MAX);
 
         make_sound(below(257));
         for (unsigned c = 0; c < ROUTER_CONNECTIONS; c++) {
-            entry_at(state, c)[ROUTER_ENTRY_DELAY] = (uint8_t)(offsets + between(0, delays));
-            entry_at(state, c)[ROUTER_ENTRY_MASK] = (uint8_t)ports;
+            state[entry_at(c) + ROUTER_ENTRY_DELAY] = (uint8_t)(offsets + between(0, delays));
+            state[entry_at(c) + ROUTER_ENTRY_MASK] = (uint8_t)ports;
         }
         for (unsigned s = 0; s < ROUTER_SLOTS; s++) {
-            if (slot_at(state, s)[ROUTER_SLOT_MASK] != 0)
+            if (state[slot_at(s) + ROUTER_SLOT_MASK] != 0)
                 put_stored(s, between(-offsets, offsets), (unsigned)(offsets + between(0, delays)), ports);
         }
         r.controls = 2;
@@ -423,7 +424,7 @@ static void test_ties(void)
 /* Runs in which times, or deadlines, are shared, with all delays, on either side of the clock's turn. */
 static void test_shared(void)
 {
-    for (unsigned k = 0; k < TIED_CALLS; k += 40) {
+    for (unsigned k = 0; k < rounds(TIED_CALLS); k += 40) {
         struct regime r = random_regime();
 
         r.offsets = chance(50) ? SHARED_TIMES : SHARED_DEADLINES;
@@ -440,7 +441,7 @@ static void test_damaged(void)
 {
     struct regime r = random_regime();
 
-    for (unsigned k = 0; k < DAMAGED_CALLS; k++) {
+    for (unsigned k = 0; k < rounds(DAMAGED_CALLS); k++) {
         if (k % 50 == 0) {
             r = random_regime();
             make_filled(below(257));
@@ -587,7 +588,7 @@ static void test_foreign(void)
     for (unsigned w = 0; w < sizeof way / sizeof *way; w++) {
         unsigned long areas = 0, refused = 0;
 
-        for (unsigned round = 0; round < FOREIGN_ROUNDS; round++) {
+        for (unsigned round = 0; round < rounds(FOREIGN_ROUNDS); round++) {
             struct regime r = random_regime();
             unsigned number;
 

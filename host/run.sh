@@ -3,16 +3,19 @@
 # usage: run.sh [ARCHIVE|plain [SERVICE-ARCHIVE|plain [SEED]]]   (where an archive is missing or empty, the crate's own,
 # router or service, which rt proves and builds; plain: the plain implementation under the router's names, and of both
 # where it is the only word)
-# LIBS: more to link. Ends with a line "host: N passed, M failed"; nonzero exit on any failure.
+# LIBS: more to link. SANITIZE=yes: all C is built with sanitizers (flags.sh), with `plain` the routers too, and the
+# tests run one in five of their random calls. Ends with a line "host: N passed, M failed"; nonzero exit on any failure.
 set -u
 here=$(cd "$(dirname "$0")" && pwd)
 suite=host
+. "$here/flags.sh"
 . "$here/steps.sh"
 include=$here/../include
-strict="-Wall -Wextra -Wpedantic -Werror -I$include"
-c99="gcc -std=c99 $strict -O2 -I$here"
+c99="gcc -std=c99 $strict -O2 -I$include -I$here"
 libs=${LIBS:-}
-seed=${3:-}
+seed=${3:-1}
+share=1
+[ "${SANITIZE:-}" != yes ] || share=5
 given=${1:-}
 service_given=${2:-}
 [ "$given$service_given" != plain ] || service_given=plain
@@ -21,7 +24,26 @@ service=$(sh "$here/archive.sh" "$build" "$service_given" service) || exit 1
 
 header() {
     printf '#include "router.h"\n#include "router.h"\nint main(void) { return ROUTER_ACCEPTED; }\n' > "$build/header.$2"
-    "$1" "-std=$3" $strict "$build/header.$2" -o "$build/header"
+    "$1" "-std=$3" $strict -I"$include" "$build/header.$2" -o "$build/header"
+}
+
+# The sanitizers report a read out of bounds and a sum that C leaves undefined.
+reports() {
+    cat > "$build/seeded.c" <<'END'
+#include <limits.h>
+int main(int argc, char **argv)
+{
+    static int few[4];
+    const int *volatile first = few;
+    (void)argv;
+    return argc == 1 ? first[3 + argc] : INT_MAX - 1 + argc;
+}
+END
+    $c99 "$build/seeded.c" -o "$build/seeded" || return
+    "$build/seeded" 2> "$build/said"
+    test $? -eq 99 && grep -q AddressSanitizer "$build/said" || return
+    "$build/seeded" overflow 2> "$build/said"
+    test $? -eq 99 && grep -q 'runtime error: signed integer overflow' "$build/said"
 }
 
 # symbols ARCHIVE OFFERED NEEDED: the archive offers just these names, and needs just these others.
@@ -158,13 +180,14 @@ END
 # sections_of PROGRAM: runs a test program and counts its sections.
 sections_of() {
     [ -x "$build/$1" ] || return
-    "$build/$1" $seed > "$build/$1.out" 2>&1
+    "$build/$1" "$seed" $share > "$build/$1.out" 2>&1
     status=$?
     cat "$build/$1.out"
     sections "$build/$1.out"
     step "$1 ran to its end" test $status -eq 0
 }
 
+[ "${SANITIZE:-}" != yes ] || step "the sanitizers report what they are to report" reports
 step "router.h as C99" header gcc c c99
 step "router.h as C11" header gcc c c11
 step "router.h as C++" header g++ cc c++11
@@ -172,9 +195,9 @@ for source in plain plain_queues whole harness record dump; do
     step "build $source.c" $c99 -c "$here/$source.c" -o "$build/$source.o"
 done
 [ "$given" = plain ] || step "the router's archive has its entries, and needs memcpy and memset alone" \
-    symbols "$archive" "router_control router_display router_fresh router_tick" "memcpy memset"
+    symbols "$archive" "router_control router_display router_fresh router_tick router_version" "memcpy memset"
 [ "$service_given" = plain ] || step "the service archive has its entries, and needs memset alone" \
-    symbols "$service" "router_fault router_queues_control router_queues_fill router_queues_tick" "memset"
+    symbols "$service" "router_fault router_queues_control router_queues_fill router_queues_tick service_version" "memset"
 tested="$build/harness.o $build/plain.o $build/plain_queues.o $service $archive $libs"
 step "build test" $c99 "$here/test.c" "$build/whole.o" $tested -o "$build/test"
 step "build faults_test" $c99 "$here/faults_test.c" $tested -o "$build/faults_test"
@@ -191,6 +214,7 @@ step "table1 ends with a word where there is nothing to show" table1_refusals
 step "fault names each fault, and where" fault_examples
 step "fault ends with a word where there is nothing to say" fault_refusals
 step "fault finds what router_fault tells, or says that it doesn't" fault_doubts
+step "bench runs each of its rows" sh "$here/bench.sh" once "$archive" "$service"
 sections_of test
 sections_of faults_test
 sections_of queues_test

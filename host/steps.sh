@@ -1,6 +1,8 @@
 # steps.sh - what the test scripts share: a folder to build in, steps that are counted, a last line on every way out.
-# To be read by `.` where `suite` has the name in that line, "SUITE: N passed, M failed". A script that ends without
-# `ended=yes` counts one failure more; any failure makes its exit status nonzero.
+# To be read by `.` where `suite` has the name in that line, "SUITE: N passed, M failed"; with SANITIZE (flags.sh) the
+# name is "SUITE, sanitized". A script that ends without `ended=yes` counts one failure more; any failure makes its exit
+# status nonzero.
+[ "${SANITIZE:-}" != yes ] || suite="$suite, sanitized"
 passed=0
 failed=0
 ended=

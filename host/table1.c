@@ -86,7 +86,7 @@ static void print_queue(const char *label, unsigned port, unsigned sort)
     printf("  %-*s%4u", MARGIN - 6, label, size);
     for (unsigned i = 0; i < size; i++) {
         unsigned s = queue[ROUTER_QUEUE_ENTRIES + size - 1 - i];
-        unsigned time = slot_at(s)[sort == ROUTER_QUEUE_EARLY ? ROUTER_SLOT_TIME : ROUTER_SLOT_DEADLINE];
+        unsigned time = state[slot_at(s) + (sort == ROUTER_QUEUE_EARLY ? ROUTER_SLOT_TIME : ROUTER_SLOT_DEADLINE)];
         unsigned key = (uint8_t)(time - state[ROUTER_STATE_CLOCK]);
 
         if (i > 0 && i % CELLS == 0)
@@ -94,7 +94,7 @@ static void print_queue(const char *label, unsigned port, unsigned sort)
         else if (i > 0 && *mark == '\0')
             printf(" ");
         mark = sort == ROUTER_QUEUE_EARLY && key <= state[ROUTER_STATE_HORIZONS + port] ? "*" : "";
-        printf(" %3u:%02X %3u%s", s, packet_at(s)[ROUTER_PACKET_ID], key, mark);
+        printf(" %3u:%02X %3u%s", s, memory[ROUTER_PACKET_LEN * s + ROUTER_PACKET_ID], key, mark);
     }
     printf("\n");
 }
@@ -115,7 +115,7 @@ static void print_heading(const char *name)
         printf("\n");
     }
     printf("clock %u, %u packets stored, %u slots free\n\n", state[ROUTER_STATE_CLOCK],
-           ROUTER_SLOTS - free_count(), free_count());
+           ROUTER_SLOTS - free_count(state), free_count(state));
     printf("Of each queue how many wait, and, first ones first, SLOT:ID KEY of each.\n"
            "ID is the outgoing identifier, in hex. KEY counts ticks: on time to the\n"
            "deadline, early to the logical arrival time; * is within the horizon.\n"

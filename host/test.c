@@ -2,7 +2,7 @@
  * test.c - compares the router (router_*, from an archive) with the plain implementation, byte for byte over all
  * areas and numbers, with the order of packets, and with the router that never turns over; then runs the experiment of
  * document 001, Fig. 10.
- *   test [SEED]
+ *   test [SEED [SHARE]]   (SHARE: of the random calls one in so many)
  */
 #define _DEFAULT_SOURCE
 
@@ -65,7 +65,7 @@ static int several(unsigned mask)
  * then. In a tick that stores nothing a port that sends sends the first of these. Counts its ties with the others, and
  * best-effort before an early packet.
  */
-static void look_at_choices(uint8_t *state_then, const uint8_t *memory_then, const uint8_t *outgoing,
+static void look_at_choices(const uint8_t *state_then, const uint8_t *memory_then, const uint8_t *outgoing,
                             const uint8_t *answered, unsigned long *ties)
 {
     struct seen seen[ROUTER_SLOTS];
@@ -120,11 +120,11 @@ static void count_tick(void)
         full |= arrival == ROUTER_ARRIVAL_FULL;
         if (arrival == ROUTER_ARRIVAL_STORED)
             occurred[MULTICAST_STORED] +=
-                several(entry_at(state, arrival_at(p)[ROUTER_PACKET_ID])[ROUTER_ENTRY_MASK]);
+                several(state[entry_at(arrival_at(p)[ROUTER_PACKET_ID]) + ROUTER_ENTRY_MASK]);
     }
     for (unsigned s = 0; s < ROUTER_SLOTS; s++) {
-        const uint8_t *slot = slot_at(state, s);
-        unsigned was = slot_at(before[STATE], s)[ROUTER_SLOT_MASK], is = slot[ROUTER_SLOT_MASK];
+        const uint8_t *slot = state + slot_at(s);
+        unsigned was = before[STATE][slot_at(s) + ROUTER_SLOT_MASK], is = slot[ROUTER_SLOT_MASK];
 
         if (was == is)
             continue;
@@ -148,6 +148,15 @@ void after_call(const struct call *c, unsigned number)
 }
 
 /* ---- Tests of single calls ---- */
+
+/* Both archives are of this header's version. */
+static void test_versions(void)
+{
+    expect("router_version", router_version(), ROUTER_VERSION);
+    expect("service_version", service_version(), ROUTER_VERSION);
+    expect("plain version", plain_version(), ROUTER_VERSION);
+    expect("plain service version", plain_service_version(), ROUTER_VERSION);
+}
 
 static unsigned fresh(unsigned clock)
 {
@@ -255,7 +264,7 @@ static void test_offsets(void)
         for (int offset = -128; offset <= 127; offset++) {
             unsigned port = below(ROUTER_PORTS), in = below(ROUTER_PORTS), connection = random_byte();
             int horizon = edgy(0, 127);
-            uint8_t *entry = entry_at(state, connection);
+            uint8_t *entry = state + entry_at(connection);
             unsigned number = offset >= -d ? ROUTER_ARRIVAL_STORED : ROUTER_ARRIVAL_LATE;
             unsigned code = number != ROUTER_ARRIVAL_STORED ? ROUTER_PORT_IDLE
                             : offset <= 0                   ? ROUTER_PORT_ON_TIME
@@ -306,7 +315,7 @@ static void sent_of_two(unsigned clock, unsigned slot, int offset_9, unsigned d_
     memset(state + ROUTER_STATE_HORIZONS, ROUTER_HORIZON_MAX, ROUTER_PORTS);
     for (unsigned s = 0; s < ROUTER_SLOTS; s++)
         state[ROUTER_STATE_STACK + s] = (uint8_t)s;
-    set_free_count(ROUTER_SLOTS - 2);
+    set_free_count(state, ROUTER_SLOTS - 2);
     state[ROUTER_STATE_STACK + 2] = 254;
     state[ROUTER_STATE_STACK + 9] = 255;
     put_stored(9, offset_9, d_9, 1u << ONE_PORT);
@@ -359,7 +368,7 @@ static void test_choices(void)
 /* Two packets of one deadline, on time, and two of one time, early, at every clock. */
 static void test_pairs(void)
 {
-    for (unsigned round = 0; round < 256 * TIED_PAIRS; round++) {
+    for (unsigned round = 0; round < 256 * rounds(TIED_PAIRS); round++) {
         unsigned clock = round % 256;
         int key = edgy(0, ROUTER_DELAY_MAX), low = key - ROUTER_DELAY_MAX;
         int time_9 = edgy(low, 0), time_2 = edgy(low, 0);
@@ -419,7 +428,7 @@ static void test_evolving(void)
 {
     struct regime r = random_regime();
 
-    for (unsigned k = 0; k < EVOLVING_CALLS; k++) {
+    for (unsigned k = 0; k < rounds(EVOLVING_CALLS); k++) {
         if (k % 4000 == 0)
             fresh(random_byte());
         if (k % 1000 == 0)
@@ -431,7 +440,7 @@ static void test_evolving(void)
 /* Short runs from random sound states. */
 static void test_made(void)
 {
-    for (unsigned k = 0; k < MADE_CALLS; k += 20) {
+    for (unsigned k = 0; k < rounds(MADE_CALLS); k += 20) {
         struct regime r = random_regime();
 
         make_sound(chance(20) ? ROUTER_SLOTS - below(6) : below(257));
@@ -443,7 +452,7 @@ static void test_made(void)
 /* Short runs in which many packets share a deadline, or a time, on either side of the clock's turn. */
 static void test_ties(void)
 {
-    for (unsigned k = 0; k < TIED_CALLS; k += 20) {
+    for (unsigned k = 0; k < rounds(TIED_CALLS); k += 20) {
         struct regime r = random_regime();
 
         r.offsets = chance(50) ? SHARED_TIMES : SHARED_DEADLINES;
@@ -459,7 +468,7 @@ static void test_damaged(void)
 {
     struct regime r = random_regime();
 
-    for (unsigned k = 0; k < DAMAGED_CALLS; k++) {
+    for (unsigned k = 0; k < rounds(DAMAGED_CALLS); k++) {
         if (k % 50 == 0) {
             r = random_regime();
             make_sound(below(257));
@@ -481,7 +490,10 @@ struct fate {
     uint8_t out_id, left;
 };
 
-#define ODD_LEN_MAX 200 /* arrivals, outgoing and answers may have any length up to this */
+/* The areas of a tick besides state and memory, and the most bytes that one of them may have here. */
+static const enum area beside[] = {ARRIVALS, OUTGOING, ANSWERS};
+#define BESIDE (sizeof beside / sizeof *beside)
+#define ODD_LEN_MAX 200
 
 static struct whole whole;
 static struct fate ledger[ROUTER_SLOTS];
@@ -497,7 +509,7 @@ static void check_correspondence(void)
     expect("clock", whole_state[ROUTER_STATE_CLOCK], whole_cut(whole.clock));
     for (unsigned s = 0; s < ROUTER_SLOTS; s++) {
         const struct whole_place *place = &whole.place[s];
-        const uint8_t *slot = slot_at(whole_state, s), *packet = whole_memory + ROUTER_PACKET_LEN * s;
+        const uint8_t *slot = whole_state + slot_at(s), *packet = whole_memory + ROUTER_PACKET_LEN * s;
 
         if (slot[ROUTER_SLOT_MASK] != place->left)
             fail("slot %u has ports %u and should have %u", s, slot[ROUTER_SLOT_MASK], place->left);
@@ -527,7 +539,7 @@ static void check_settings(void)
     for (unsigned p = 0; p < ROUTER_PORTS; p++)
         expect("horizon", whole_state[ROUTER_STATE_HORIZONS + p], whole.horizon[p]);
     for (unsigned c = 0; c < ROUTER_CONNECTIONS; c++) {
-        const uint8_t *entry = entry_at(whole_state, c);
+        const uint8_t *entry = whole_state + entry_at(c);
 
         expect("entry identifier", entry[ROUTER_ENTRY_OUT_ID], whole.table[c].out_id);
         expect("entry d", entry[ROUTER_ENTRY_DELAY], whole.table[c].delay);
@@ -538,7 +550,7 @@ static void check_settings(void)
 /* Writes an accepted arrival into the ledger; the entry is as in the tick, which no control write has touched. */
 static void enter_fate(const uint8_t *packet, int64_t time, int64_t now)
 {
-    const uint8_t *entry = entry_at(whole_state, packet[ROUTER_PACKET_ID]);
+    const uint8_t *entry = whole_state + entry_at(packet[ROUTER_PACKET_ID]);
     struct fate *fate = &ledger[ledger_count];
 
     if (ledger_count == ROUTER_SLOTS)
@@ -610,7 +622,7 @@ static void whole_tick_both(const struct regime *r, int serials)
 {
     struct call c = make_call(TICK, chance(r->odd) ? random_byte() : random_mask(r->arrivals),
                               chance(r->odd) ? random_byte() : random_mask(r->best_effort));
-    uint8_t bytes[AREAS][ODD_LEN_MAX]; /* the other router's arrivals, outgoing and answers */
+    uint8_t bytes[AREAS][ODD_LEN_MAX]; /* those areas of the other router */
     uint8_t *lent[AREAS] = {whole_state, whole_memory};
     int64_t time[ROUTER_PORTS], now = whole.clock;
     int looked_at = serials && below(CHOICE_SAMPLE) == 0;
@@ -620,7 +632,9 @@ static void whole_tick_both(const struct regime *r, int serials)
         memcpy(before[STATE], whole_state, ROUTER_STATE_LEN);
         memcpy(before[MEMORY], whole_memory, ROUTER_MEMORY_LEN);
     }
-    for (unsigned i = ARRIVALS; i < AREAS; i++) {
+    for (unsigned k = 0; k < BESIDE; k++) {
+        enum area i = beside[k];
+
         if (chance(r->odd) && chance(20))
             c.len[i] = below(ODD_LEN_MAX);
         memset(bytes[i], random_byte(), sizeof bytes[i]);
@@ -635,13 +649,18 @@ static void whole_tick_both(const struct regime *r, int serials)
             memcpy(packet + ROUTER_PACKET_DATA, &last_serial, sizeof last_serial);
         occurred[WHOLE_BELOW_ZERO] += time[p] < 0;
     }
-    for (unsigned i = ARRIVALS; i < AREAS; i++)
+    for (unsigned k = 0; k < BESIDE; k++) {
+        enum area i = beside[k];
+
         lent[i] = lend(TICK, i, bytes[i], c.len[i], (int)below(2));
+    }
     expected = whole_tick(&whole, bytes[ARRIVALS], c.len[ARRIVALS], time, bytes[OUTGOING], c.len[OUTGOING],
                           bytes[ANSWERS], c.len[ANSWERS], c.first, c.second);
     number = call_router(&c, lent);
     expect("number", number, expected);
-    for (unsigned i = ARRIVALS; i < AREAS; i++) {
+    for (unsigned k = 0; k < BESIDE; k++) {
+        enum area i = beside[k];
+
         if (memcmp(lent[i], bytes[i], c.len[i]) != 0)
             differs(&c, i, lent[i], bytes[i]);
     }
@@ -675,7 +694,7 @@ static void test_whole(void)
     struct regime r = random_regime();
     int serials = 1;
 
-    for (unsigned ticks = 0; ticks < WHOLE_TICKS;) {
+    for (unsigned ticks = 0; ticks < rounds(WHOLE_TICKS);) {
         if (ticks % 60000 == 0) {
             struct call c = make_call(FRESH, ticks == 0 ? 0 : random_byte(), 0);
             uint8_t *lent[AREAS];
@@ -762,6 +781,7 @@ static void test_occurred(void)
 int main(int argc, char **argv)
 {
     start(argc, argv);
+    section("the archives' versions", test_versions);
     section("a fresh router, every clock", test_fresh);
     section("wrong and zero lengths", test_lengths);
     section("the display part, every port", test_display);

@@ -4,10 +4,12 @@
 # usage: run.sh [TAPE_PROGRAM PAGE_PROGRAM] [write]
 # Without programs, target/bin/tape and target/bin/page, which rt proves and builds.
 # write: first writes the tapes of this folder anew, and what is expected of them. Needs gcc and python3.
+# SANITIZE=yes: the second implementation is built with sanitizers (host/flags.sh).
 # Ends with a line "tapes: N passed, M failed"; nonzero exit on any failure.
 set -u
 here=$(cd "$(dirname "$0")" && pwd)
 suite=tapes
+. "$here/../host/flags.sh"
 . "$here/../host/steps.sh"
 tape_program=
 page_program=
@@ -38,7 +40,7 @@ fi
 for program in "$tape_program" "$page_program"; do
     [ -x "$program" ] || { echo "tapes: there is no program $program" >&2; exit 1; }
 done
-gcc -std=c99 -Wall -Wextra -Wpedantic -Werror -O2 -I"$here/../include" -I"$here/../host" \
+gcc -std=c99 $strict -O2 -I"$here/../include" -I"$here/../host" \
     "$here/second.c" "$here/../host/record.c" "$here/../host/whole.c" -o "$build/second" || exit 1
 
 # In all that follows a PROGRAM is the word tape or page.
