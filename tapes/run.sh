@@ -241,8 +241,8 @@ open_pipe() { # PROGRAM
     exec 3>&-
     wait $!
     status=$?
-    head -c $((24 * 63 + 5)) "$build/tape" | second "$1" > "$build/expected"
-    test $fed -eq 0 && quiet $status "$build/expected"
+    head -c $((24 * 63 + 5)) "$build/tape" | second "$1" > "$build/expected" &&
+        test $fed -eq 0 && quiet $status "$build/expected"
 }
 
 # Standard input that can't be read after ten ticks and five bytes more: an empty pipe that the reader may not wait for.
@@ -258,6 +258,12 @@ failed_read() { # PROGRAM
     exec 3<&-
     says_so "$1" $status && begins "$build/expected" &&
         test "$(wc -c < "$build/found")" -eq "$(length_of "$1" 10)"
+}
+
+# What the second implementation prints of the worked example is what the crate has.
+worked_example() { # PROGRAM
+    example=$here/../crates/$1
+    second "$1" < "$example/stdin" > "$build/expected" && cmp "$example/stdout" "$build/expected"
 }
 
 # The page in the README is what `page` prints of that tape.
@@ -277,9 +283,7 @@ for file in "$here"/*.tape; do
     done
 done
 for program in tape page; do
-    example=$here/../crates/$program
-    second $program < "$example/stdin" > "$build/expected"
-    step "$program: second.c on the worked example of document 01" cmp "$example/stdout" "$build/expected"
+    step "$program: second.c on the worked example of document 01" worked_example $program
 done
 step "the worked example is one" cmp "$here/../crates/tape/stdin" "$here/../crates/page/stdin"
 step "the page in the README" readme_page
