@@ -197,7 +197,8 @@ done
 [ "$given" = plain ] || step "the router's archive has its entries, and needs memcpy and memset alone" \
     symbols "$archive" "router_control router_display router_fresh router_tick router_version" "memcpy memset"
 [ "$service_given" = plain ] || step "the service archive has its entries, and needs memset alone" \
-    symbols "$service" "router_fault router_queues_control router_queues_fill router_queues_tick service_version" "memset"
+    symbols "$service" "router_fault router_queues_control router_queues_fill router_queues_tick service_version" \
+    "memset"
 tested="$build/harness.o $build/plain.o $build/plain_queues.o $service $archive $libs"
 step "build test" $c99 "$here/test.c" "$build/whole.o" $tested -o "$build/test"
 step "build faults_test" $c99 "$here/faults_test.c" $tested -o "$build/faults_test"
