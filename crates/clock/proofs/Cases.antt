@@ -1,10 +1,11 @@
--- The figure's cases of a clock of b bits: of each time at each reading exactly one holds, since comparisons part the readings; and in each the key is a plain sum or difference. Assumes nothing.
+-- The figure's cases of a clock of b bits: of each time at each reading exactly one holds, since comparisons part the readings; and the figure's line of a case, a plain sum or difference, is the key. Assumes nothing.
 use Prim.Native.Nat.{ℕ, suc, pred, _+_, _-_, _*_, _/_, _%_, _^_, _≤_, _<_}
-use mathlib.Core.Path.{_≡_, sym, ap, subst, _∙_}
+use mathlib.Core.Path.{_≡_, refl, sym, ap, subst, _∙_}
 use mathlib.Core.Bool.{Bool, true, false, cond, not, _||_, or-true}
 use native.Mathlib.Decide.{decLt, decLe}
 use native.Mathlib.Nat.{mod-lt, div-add-mod'}
 use native.Mathlib.Omega.{arith}
+use mathlib.Core.Option.{some}
 use lib.Pow.{pow-pos}
 use lib.Dec.{leb, ltb, eqb}
 use lib.IntN.{pos}
@@ -12,13 +13,14 @@ use lib.Signed.{ltZ}
 use borrow.Author.Tests.{lt-ltb, le-ltb, lt-leb, le-leb, eq-eqb, ne-eqb}
 use Rattle.rules.specs.Areas.{bits}
 use Rattle.rules.specs.Clock.{plus, minus, signed, offset}
+use Rattle.rules.proofs.Booleans.{some-inj}
 use Rattle.rules.proofs.ClockLaws.{turns, pow-double, minus-view, minus-lt}
 use Rattle.rules.proofs.Offsets.{at-most-0, above}
 use Rattle.clock.specs.declared.Case.{Case}
 use Rattle.clock.specs.declared.Case.the-variants.{Behind, BehindAcross, Ahead, AheadAcross}
 use Rattle.clock.specs.declared.Key.{Key}
 use Rattle.clock.specs.declared.Key.the-variants.{OnTime, Early}
-use Rattle.clock.specs.Cases.{Holds, TheCase, ExactlyOne, restOf, keyOf}
+use Rattle.clock.specs.Cases.{Holds, TheCase, ExactlyOne, restOf, aheadBy, AheadBy, keyBy, line, Fig7, keyOf}
 
 -- ---- exactly one case
 
@@ -52,23 +54,16 @@ exactly-one b x t = (found b x t, record { holds = found-holds b x t; only = hol
 pub the-case : (b x t : ℕ) {c : Case} → Holds b c x t → TheCase b c x t
 the-case b x t {c} h = let (e, k) = exactly-one b x t in subst (λ (c : Case). TheCase b c x t) (sym (k .only c h)) k
 
--- and, for one byte, it holds in the arm of a `match` that it leads to.
-pub told : {x t : ℕ} {c d : Case} → TheCase (bits 1) c x t → c ≡ d → Holds 8 d x t
+-- and, for one byte, it is the one in the arm of a `match` that it leads to.
+pub told : {x t : ℕ} {c d : Case} → TheCase (bits 1) c x t → c ≡ d → TheCase 8 d x t
 unfolding bits
-told {x} {t} h e = subst (λ (c : Case). Holds 8 c x t) e (h .holds)
+told {x} {t} h e = subst (λ (c : Case). TheCase 8 c x t) e h
 
 -- ---- how far a time is ahead
 
 -- What any number but 0 is short of a turn.
 rest-of : (b n : ℕ) → 0 < n → restOf b n ≡ 2 ^ b - n
 rest-of b n h = rw (ne-eqb n 0 (λ e. omega arith))
-
--- How far x is ahead of t, by the case.
-abbrev pub aheadBy : ℕ → Case → ℕ → ℕ → ℕ
-aheadBy b Behind x t = restOf b (t - x)
-aheadBy b BehindAcross x t = x - t
-aheadBy b Ahead x t = x - t
-aheadBy b AheadAcross x t = restOf b (t - x)
 
 module _ (b x t : ℕ) (hx : x < 2 ^ b) (ht : t < 2 ^ b) where
   -- The difference is the number below a turn that makes x of t, but for turns.
@@ -86,26 +81,27 @@ module _ (b x t : ℕ) (hx : x < 2 ^ b) (ht : t < 2 ^ b) where
       go (yes m) = rest-of b (t - x) (omega arith) ∙ minus-is (2 ^ b - (t - x)) 1 (omega arith) (omega arith)
       go (no m) = rw (eq-eqb (t - x) 0 (omega arith)) (minus-is 0 0 (omega arith) (omega arith))
 
-  pub ahead-by-case : (c : Case) → Holds b c x t → aheadBy b c x t ≡ minus b x t
+  ahead-by-case : (c : Case) → Holds b c x t → aheadBy b c x t ≡ minus b x t
   ahead-by-case Behind (l, m) = back l
   ahead-by-case BehindAcross l = from (omega arith)
   ahead-by-case Ahead (l, m) = from (omega arith)
   ahead-by-case AheadAcross l = back (omega arith)
 
+  -- So by the case that holds.
+  ahead-minus : {n : ℕ} → AheadBy b x t n → n ≡ minus b x t
+  ahead-minus (c, h, e) = e ∙ ahead-by-case c (h .holds)
+
+  pub ahead-told : {n : ℕ} (c : Case) → TheCase b c x t → n ≡ aheadBy b c x t → AheadBy b x t n × (n ≡ minus b x t)
+  ahead-told c h e = ((c, h, e), ahead-minus (c, h, e))
+
 -- ---- the key
 
--- Whether x is early, by the case, and the key, where l is deadline - t.
+-- Whether x is early, by the case.
 abbrev earlyBy : Case → Bool
 earlyBy Behind = false
 earlyBy BehindAcross = false
 earlyBy Ahead = true
 earlyBy AheadAcross = true
-
-abbrev pub keyBy : ℕ → Case → ℕ → ℕ → ℕ → Key
-keyBy b Behind x t l = OnTime l (2 ^ pred b - (t - x))
-keyBy b BehindAcross x t l = OnTime l (x - t - 2 ^ pred b)
-keyBy b Ahead x t l = Early (x - t) l
-keyBy b AheadAcross x t l = Early (restOf b (t - x)) l
 
 module _ (k x t : ℕ) (hx : x < 2 ^ suc k) (ht : t < 2 ^ suc k) where
   -- A time is early where it is ahead by more than none and less than half a turn.
@@ -142,7 +138,7 @@ module _ (k x t : ℕ) (hx : x < 2 ^ suc k) (ht : t < 2 ^ suc k) where
       let m = mod-lt n (pow-pos (suc k)) in
       turns (2 ^ suc k) r (n % 2 ^ suc k) (p + s) (n / 2 ^ suc k) (omega arith) (omega arith) (omega arith)
 
-  pub key-by-case : (c : Case) → Holds (suc k) c x t → (d l : ℕ) → l ≡ minus (suc k) d t → keyBy (suc k) c x t l ≡ keyOf (suc k) x d t
+  key-by-case : (c : Case) → Holds (suc k) c x t → (d l : ℕ) → l ≡ minus (suc k) d t → keyBy (suc k) c x t l ≡ keyOf (suc k) x d t
   key-by-case c h d l e = rw (early-by-case c h, ← e) (go c h)
     where
       go : (c : Case) → Holds (suc k) c x t → keyBy (suc k) c x t l ≡ cond (earlyBy c) (Early (minus (suc k) x t) l) (OnTime l (plus (suc k) (minus (suc k) x t) (2 ^ k)))
@@ -150,3 +146,14 @@ module _ (k x t : ℕ) (hx : x < 2 ^ suc k) (ht : t < 2 ^ suc k) where
       go BehindAcross a = ap (OnTime l) (raised-is (x - t - 2 ^ k) 1 (omega (arith, pow-double k)) (omega (arith, pow-double k)))
       go Ahead h = ap (λ (n : ℕ). Early n l) (ahead-by-case (suc k) x t hx ht Ahead h)
       go AheadAcross h = ap (λ (n : ℕ). Early n l) (ahead-by-case (suc k) x t hx ht AheadAcross h)
+
+-- ---- the figure's lines
+
+-- What an eligible packet's line is: by the case that holds of its time, with deadline - t by the case that holds of its deadline.
+pub key-line : {b x d t l : ℕ} {c : Case} → TheCase b c x t → AheadBy b d t l → Fig7 b true x d t (some (keyBy b c x t l))
+key-line {b} {x} {d} {t} {l} {c} h (e, k, n) = record { time-case = c; deadline-case = e; time-holds = h; deadline-holds = k; seen = ap (λ (l : ℕ). some (keyBy b c x t l)) n }
+
+-- It has the key.
+pub line-key : (k x d t : ℕ) → x < 2 ^ suc k → d < 2 ^ suc k → t < 2 ^ suc k → {r : Key} → Fig7 (suc k) true x d t (some r) → r ≡ keyOf (suc k) x d t
+line-key k x d t hx hd ht F =
+    some-inj (F .seen) ∙ key-by-case k x t hx ht (F .time-case) (F .time-holds .holds) d _ (ahead-minus (suc k) d t hd ht (F .deadline-case, F .deadline-holds, refl))

@@ -1,7 +1,8 @@
--- The cases of Fig. 7 of document 001, and the key, for a clock of b bits. Assumes nothing.
+-- Fig. 7 of document 001 for a clock of b bits: its cases, its three lines in plain sums and differences of a case, and the key. Assumes nothing.
 use Prim.Native.Nat.{ℕ, pred, _+_, _-_, _^_, _≤_, _<_}
 use mathlib.Core.Bool.{Bool, cond}
 use mathlib.Core.Path.{_≡_}
+use mathlib.Core.Option.{Option, none, some}
 use lib.Dec.{eqb}
 use lib.IntN.{pos}
 use lib.Signed.{ltZ}
@@ -30,6 +31,45 @@ ExactlyOne b = (x t : ℕ) → (c : Case) × TheCase b c x t
 -- How many ticks n is short of a turn; 0 is short of none.
 abbrev pub restOf : ℕ → ℕ → ℕ
 restOf b n = cond (eqb n 0) 0 (2 ^ b - n)
+
+-- ---- the figure's lines
+
+-- How far a time x is ahead of t, by its case: x - t.
+abbrev pub aheadBy : ℕ → Case → ℕ → ℕ → ℕ
+aheadBy b Behind x t = restOf b (t - x)
+aheadBy b BehindAcross x t = x - t
+aheadBy b Ahead x t = x - t
+aheadBy b AheadAcross x t = restOf b (t - x)
+
+-- "On-time: 0 0 l(m) + d - t", "Early: 0 1 l(m) - t": the line of a packet by the case of its time x, where l is deadline - t. The constructor is the figure's second bit, the first number the figure's.
+-- The second number decides among equal ones (document 02, [4]): how far x is from half a turn before t on, and l.
+abbrev pub keyBy : ℕ → Case → ℕ → ℕ → ℕ → Key
+keyBy b Behind x t l = OnTime l (2 ^ pred b - (t - x))
+keyBy b BehindAcross x t l = OnTime l (x - t - 2 ^ pred b)
+keyBy b Ahead x t l = Early (x - t) l
+keyBy b AheadAcross x t l = Early (restOf b (t - x)) l
+
+-- "Ineligible: 1 - -": a packet that is not destined to the port has no key there.
+abbrev pub ineligible : Option Key
+ineligible = none
+
+-- What a port sees at t of a packet of time x and deadline d, by their cases; the packet is destined to the port if `eligible`.
+abbrev pub line : ℕ → Bool → Case → Case → ℕ → ℕ → ℕ → Option Key
+line b eligible c e x d t = cond eligible (some (keyBy b c x t (aheadBy b e d t))) ineligible
+
+-- It sees o: the line of the cases that hold.
+pub record Fig7 (b : ℕ) (eligible : Bool) (x d t : ℕ) (o : Option Key) : Type 0 where
+  pub time-case : Case
+  pub deadline-case : Case
+  pub time-holds : TheCase b time-case x t
+  pub deadline-holds : TheCase b deadline-case d t
+  pub seen : o ≡ line b eligible time-case deadline-case x d t
+
+-- n is how far x is ahead of t, by the case that holds.
+abbrev pub AheadBy : ℕ → ℕ → ℕ → ℕ → Type 0
+AheadBy b x t n = (c : Case) × TheCase b c x t × (n ≡ aheadBy b c x t)
+
+-- ---- the key
 
 -- The key at t of a packet of time x and deadline d, early if e (document 01, "A tick", step 2, and document 02, [4]); an offset counts from half a turn before t.
 abbrev pub keyIf : ℕ → Bool → ℕ → ℕ → ℕ → Key

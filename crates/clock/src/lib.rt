@@ -4,7 +4,9 @@ ghost use lib.IntN.{pos, negℤ};
 ghost use lib.Signed.{leZ};
 ghost use Rattle.rules.specs.Clock.{plus, minus, offset};
 ghost use Rattle.rules.specs.Areas.{bits};
-ghost use Rattle.clock.specs.Cases.{TheCase, restOf, keyOf};
+ghost use Rattle.clock.specs.Cases.{TheCase, AheadBy, Fig7, restOf, keyOf};
+ghost use mathlib.Core.Bool.{true};
+ghost use mathlib.Core.Option.{some};
 use layout::ClockReading;
 use layout::Router;
 
@@ -81,7 +83,8 @@ fn rest(n: u8) -> u8
 
 // How far a time is ahead of t, without sign.
 fn ahead(time: ClockReading, t: ClockReading) -> u8
-    ensures { λ r. ⌜ r ≡ minus (bits 1) (time .0) (t .0) ⌝ }
+    ensures by_case { λ r. ⌜ AheadBy (bits 1) (time .0) (t .0) r ⌝ }
+    ensures difference { λ r. ⌜ r ≡ minus (bits 1) (time .0) (t .0) ⌝ }
 {
     match case_of(time, t) {
         Case::Behind => rest(t.0 - time.0),
@@ -102,15 +105,16 @@ pub fn on_time(time: ClockReading, t: ClockReading) -> bool
     Router::HALF <= x
 }
 
-// A key: the variant is the figure's bit, the first number the figure's. The second decides among equal ones: on time the offset, from half a turn behind t on, early deadline - t.
+// A key of an eligible packet: the variant is the figure's second bit, the first number the figure's. A packet that is ineligible on a port, its mask without the port, has none there. The second decides among equal ones: on time the offset, from half a turn behind t on, early deadline - t.
 pub enum Key {
     OnTime(u8, u8),
     Early(u8, u8),
 }
 
-// The key at t of a packet with this time and deadline.
+// The key at t of a packet with this time and deadline: its line of Fig. 7, on every port that it is destined to.
 pub fn key_of(time: ClockReading, deadline: ClockReading, t: ClockReading) -> Key
-    ensures { λ r. ⌜ r ≡ keyOf (bits 1) (time .0) (deadline .0) (t .0) ⌝ }
+    ensures line { λ r. ⌜ Fig7 (bits 1) true (time .0) (deadline .0) (t .0) (some r) ⌝ }
+    ensures key { λ r. ⌜ r ≡ keyOf (bits 1) (time .0) (deadline .0) (t .0) ⌝ }
 {
     let laxity = ahead(deadline, t);
     match case_of(time, t) {
