@@ -3,3 +3,4 @@ pub mod Area
 pub mod Engine
 pub mod BenchUnaltered
 pub mod QueuesAgree
+pub mod KeepsQueues

@@ -1,3 +1,4 @@
 pub mod Lists
 pub mod Refuted
 pub mod Fixed
+pub mod Engines

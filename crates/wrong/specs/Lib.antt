@@ -1,2 +1,3 @@
 pub mod Routers
 pub mod ShutOut
+pub mod Engines
