@@ -1,2 +1,3 @@
 pub mod FiveGrants
 pub mod SlotKeys
+pub mod Lines

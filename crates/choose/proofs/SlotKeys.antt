@@ -11,14 +11,11 @@ use Rattle.rules.specs.Order.{counted}
 use Rattle.rules.specs.Tick.{isEarly, slotKeyOf, slotKey}
 use Rattle.passes.specs.Ranks.{keyDigitsOf, slotRank}
 use Rattle.clock.specs.Cases.{keyIf, keyOf}
+use Rattle.choose.specs.Lines.{rankBy}
 use Rattle.clock.specs.declared.Key.{Key}
 use Rattle.clock.specs.declared.Key.the-variants.{OnTime, Early}
 
--- What the code makes of a key: the rank of slot i that has it, and the key alone.
-abbrev pub rankBy : Key → ℕ → ℕ
-rankBy (OnTime k q) i = (k * 256 + q) * 256 + i
-rankBy (Early k q) i = 16777216 + ((k * 256 + q) * 256 + i)
-
+-- What the code makes of a key beside its rank: the key alone.
 abbrev pub firstBy : Key → ℕ
 firstBy (OnTime k q) = k
 firstBy (Early k q) = k

@@ -10,6 +10,7 @@ ghost use Rattle.passes.specs.Empty.{EmptyFrom};
 ghost use Rattle.passes.specs.Ports.{EachPort, changed};
 ghost use Rattle.passes.specs.Ranks as Ranks;
 ghost use Rattle.choose.specs.Grants.{grantOf, Granted};
+ghost use Rattle.choose.specs.Lines.{RankOf, Offered};
 use clock::Key;
 use layout::ClockReading;
 use layout::Field;
@@ -39,7 +40,8 @@ fn digits(key: u8, second: u8, s: SlotAddress) -> u32
 // A slot's keys and address as one number, the on-time ones first.
 pub fn rank(state: &[u8], t: ClockReading, s: SlotAddress) -> u32
     requires { ⌜ t .0 ≡ board8 .get (now state) clock ⌝ }
-    ensures { λ r. ⌜ r ≡ Ranks.slotRank board8 (now (state .entry)) (s .0) ⌝ }
+    ensures rank { λ r. ⌜ r ≡ Ranks.slotRank board8 (now (state .entry)) (s .0) ⌝ }
+    ensures line { λ r. ⌜ RankOf (now (state .entry)) (s .0) r ⌝ }
 {
     let slot = layout::times(state, s);
     match clock::key_of(slot.time, slot.deadline, t) {
@@ -67,10 +69,11 @@ fn offer(bests: &mut [u32; Router::PORTS], mask: u8, rank: u32)
     }
 }
 
-// The least ranks, with slot s looked at.
+// The least ranks, with slot s looked at. On a port that its mask has not the slot is ineligible, the third line of Fig. 7, and is not offered.
 fn look(state: &[u8], t: ClockReading, s: SlotAddress, bests: &mut [u32; Router::PORTS])
     requires { ⌜ (t .0 ≡ board8 .get (now state) clock) × EachPort (Ranks.best board8 (now state) (s .0)) (now bests) ⌝ }
-    ensures { λ _. ⌜ EachPort (Ranks.best board8 (now (state .entry)) (suc (s .0))) (now (bests .exit)) ⌝ }
+    ensures least { λ _. ⌜ EachPort (Ranks.best board8 (now (state .entry)) (suc (s .0))) (now (bests .exit)) ⌝ }
+    ensures lines { λ _. ⌜ Offered (now (state .entry)) (s .0) (now (bests .entry)) (now (bests .exit)) ⌝ }
 {
     let mask = layout::get(state, Field::Mask(s)) % 32;
     if mask == 0 {

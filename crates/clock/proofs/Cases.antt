@@ -20,7 +20,7 @@ use Rattle.clock.specs.declared.Case.{Case}
 use Rattle.clock.specs.declared.Case.the-variants.{Behind, BehindAcross, Ahead, AheadAcross}
 use Rattle.clock.specs.declared.Key.{Key}
 use Rattle.clock.specs.declared.Key.the-variants.{OnTime, Early}
-use Rattle.clock.specs.Cases.{Holds, TheCase, ExactlyOne, restOf, aheadBy, AheadBy, keyBy, line, Fig7, keyOf}
+use Rattle.clock.specs.Cases.{Holds, TheCase, ExactlyOne, restOf, aheadBy, AheadBy, keyBy, ineligible, Fig7, keyOf}
 
 -- ---- exactly one case
 
@@ -157,3 +157,17 @@ key-line {b} {x} {d} {t} {l} {c} h (e, k, n) = record { time-case = c; deadline-
 pub line-key : (k x d t : ℕ) → x < 2 ^ suc k → d < 2 ^ suc k → t < 2 ^ suc k → {r : Key} → Fig7 (suc k) true x d t (some r) → r ≡ keyOf (suc k) x d t
 line-key k x d t hx hd ht F =
     some-inj (F .seen) ∙ key-by-case k x t hx ht (F .time-case) (F .time-holds .holds) d _ (ahead-minus (suc k) d t hd ht (F .deadline-case, F .deadline-holds, refl))
+
+-- An eligible packet sees its key, and any other is ineligible.
+pub key-seen : (k x d t : ℕ) → x < 2 ^ suc k → d < 2 ^ suc k → t < 2 ^ suc k → Fig7 (suc k) true x d t (some (keyOf (suc k) x d t))
+key-seen k x d t hx hd ht =
+    let (c, h) = exactly-one (suc k) x t in
+    let (e, g) = exactly-one (suc k) d t in
+    let F = key-line h (e, g, refl) in
+    subst (λ (r : Key). Fig7 (suc k) true x d t (some r)) (line-key k x d t hx hd ht F) F
+
+pub ineligible-seen : (b x d t : ℕ) → Fig7 b false x d t ineligible
+ineligible-seen b x d t =
+    let (c, h) = exactly-one b x t in
+    let (e, g) = exactly-one b d t in
+    record { time-case = c; deadline-case = e; time-holds = h; deadline-holds = g; seen = refl }

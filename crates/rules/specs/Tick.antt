@@ -74,7 +74,7 @@ module _ (B : Board) where
   unfoldable pub slotKey : List ℕ → ℕ → Key
   slotKey s i = slotKeyOf (isEarly s i) s i
 
-  -- Each port looks at the slots whose mask has it.
+  -- Each port looks at the slots whose mask has it. Of Fig. 7 of document 001 these have the first two lines, on time or early; a slot whose mask has not the port has the third, ineligible: no key.
   unfoldable pub candidate : List ℕ → ℕ → ℕ → Option Key
   candidate s p i = cond (has (get s (Mask, i)) p) (some (slotKey s i)) none
 

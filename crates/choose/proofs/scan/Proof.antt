@@ -26,7 +26,7 @@ unfolding bits
 loop-holds c = (search needs, bests-start board8 _)
 
 loop-again : tie.Need-loop-again Inv-loop μ-loop
-loop-again c = (search needs, rw (add-one (c .before .before .before .loop .i)) (c .look .ensures))
+loop-again c = (search needs, rw (add-one (c .before .before .before .loop .i)) (c .look .ensures .0))
 
 returns : tie.Need-returns Inv-loop μ-loop
 returns c = let c₄ = c .before .before .before .before in

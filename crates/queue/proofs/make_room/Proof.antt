@@ -41,8 +41,8 @@ returns c =
     let i = start .args .s .0 in
     let h : i < 256 = omega (arith, start .good) in (
       l .inv .0,
-      placed-here _ _ _ _ _ (turn .loop-test .taken) (e .slot .ensures) (higher-after board8 _ _ i (omega arith) h _ _ (r .rank2 .ensures) (k .ensures) (omega (arith, c .if1 .taken)))
-          ∙ l .inv .2 i h (k .ensures),
+      placed-here _ _ _ _ _ (turn .loop-test .taken) (e .slot .ensures) (higher-after board8 _ _ i (omega arith) h _ _ (r .rank2 .ensures .0) (k .ensures .0) (omega (arith, c .if1 .taken)))
+          ∙ l .inv .2 i h (k .ensures .0),
     )
 
 put-slot-requires : tie.Need-put-slot-requires Inv-loop μ-loop
@@ -62,7 +62,7 @@ loop-again c =
       omega (arith, l .inv .0),
       search needs,
       λ i h k. rw (p .put-slot .ensures)
-          (placed-below _ _ _ _ _ (turn .loop-test .taken) (e .slot .ensures) (lower-before board8 _ _ _ (omega arith) h _ _ (r .rank2 .ensures) k (omega (arith, t .if1 .left))) ∙ l .inv .2 i h k),
+          (placed-below _ _ _ _ _ (turn .loop-test .taken) (e .slot .ensures) (lower-before board8 _ _ _ (omega arith) h _ _ (r .rank2 .ensures .0) k (omega (arith, t .if1 .left))) ∙ l .inv .2 i h k),
     )
 
 returns-2 : tie.Need-returns-2 Inv-loop μ-loop
@@ -70,7 +70,7 @@ returns-2 c =
     let l = c .before .loop in
     let k = c .before .before .rank in
     let a = c .before .before .before .before .before .args in
-    (l .inv .0, placed-last _ _ _ _ (omega arith) ∙ l .inv .2 (a .s .0) (omega arith) (k .ensures))
+    (l .inv .0, placed-last _ _ _ _ (omega arith) ∙ l .inv .2 (a .s .0) (omega arith) (k .ensures .0))
 
 pub make-room-spec : {M : Type 1} → statement M
 make-room-spec =
