@@ -21,6 +21,7 @@ use Rattle.choose.specs.Lines.{Sees, rankBy, RankOf, offered, Offered, G
 
 -- Of slot i, whose time is u and deadline d at the clock reading t, the key that key_of gives is its line.
 pub rank-of-line : (s : List ℕ) (i t u d : ℕ) → t ≡ board8 .get s clock → u ≡ board8 .get s (Time, i) → d ≡ board8 .get s (Deadline, i) → (k : Key) → Fig7 (bits 1) true u d t (some k) → {r : ℕ} → r ≡ rankBy k i → RankOf s i r
+unfolding RankOf
 rank-of-line s i t u d et eu ed k F e = (k, rw (et, eu, ed) at F, e)
 
 -- ---- slot i, whose mask is m, is offered
@@ -31,6 +32,7 @@ module _ (s : List ℕ) (i m : ℕ) (em : m ≡ board8 .get s (Mask, i)) where
   sees p e h o F = rw (← em, h) F
 
   pub offered-some : (l : List ℕ) (r : ℕ) → RankOf s i r → (l′ : List ℕ) → EachPort (changed (lesser r) (m % 32) l) l′ → Offered s i l l′
+  unfolding RankOf
   offered-some l r (k, F, e) l′ O = record { each = λ p h. go p h (has m p) refl }
     where
       go : (p : ℕ) → p < 5 → (t : Bool) → has m p ≡ t → (o : Option Key) × Sees s p i o × (getD l′ p 0 ≡ offered o i (getD l p 0))

@@ -27,7 +27,7 @@ rankBy (OnTime k q) i = (k * 256 + q) * 256 + i
 rankBy (Early k q) i = 16777216 + ((k * 256 + q) * 256 + i)
 
 -- r is that of the line of slot i, for a port of its mask.
-abbrev pub RankOf : List ℕ → ℕ → ℕ → Type 0
+unfoldable pub RankOf : List ℕ → ℕ → ℕ → Type 0
 RankOf s i r = (k : Key) × Fig7 (bits 1) true (board8 .get s (Time, i)) (board8 .get s (Deadline, i)) (board8 .get s clock) (some k) × (r ≡ rankBy k i)
 
 -- What a port's least rank n becomes by the line of slot i: it stays, if the slot is ineligible.
