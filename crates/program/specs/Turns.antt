@@ -1,19 +1,39 @@
--- What a turn of the programs' loop leaves: how its block is divided, and whether there is more to do. Assumes nothing.
-use Prim.Native.Nat.{ℕ, _+_, _-_, _%_, _≤_, _<_}
+-- What a turn of the programs' loop takes in and holds, what lies between turns, and whether there is more to do. Assumes nothing.
+use Prim.Native.Nat.{ℕ, _+_, _≤_, _<_}
 use mathlib.Core.Path.{_≡_}
-use mathlib.Core.Bool.{Bool, false, not, _&&_}
+use mathlib.Core.Bool.{Bool, not, _&&_}
+use mathlib.Core.List.{List}
+use lib.ListN.{length, take, drop}
 use Rattle.records.specs.Records.{recordLength}
+use Rattle.tapes.specs.declared.stepping.Place as Code
+use Rattle.tapes.specs.Blocks.{Between, toTake}
+use Rattle.tapes.specs.Values.{placeOf}
+use Rattle.program.specs.declared.Held.{Held}
 use Rattle.program.specs.declared.Input.{Input}
+use Rattle.program.specs.declared.Reading.{Reading}
 use Rattle.program.specs.declared.TurnEnd.{TurnEnd}
 
--- Of the bytes that fill a block of n, some are taken, whole records unless the input has ended; after them are fewer than a record has, which are held for the next block.
-abbrev pub Divided : ℕ → Input → Type 0
-Divided n i =
-    (i .reading .filled ≤ n) × (i .taken ≤ i .reading .filled) × (i .reading .filled < i .taken + recordLength)
-    × (i .reading .ended ≡ false → i .taken % recordLength ≡ 0)
+-- The bytes held.
+abbrev pub bytesOf : Held → List ℕ
+bytesOf h = take (h .count) (h .bytes)
 
-abbrev pub heldBy : Input → ℕ
-heldBy i = i .reading .filled - i .taken
+-- Fewer than a record has, in the room for one.
+abbrev pub PartOfRecord : Held → Type 0
+PartOfRecord h = (h .count < recordLength) × (length (h .bytes) ≡ recordLength)
+
+-- What a read brought: a block's bytes after those held.
+abbrev pub brought : Held → Reading → List ℕ → List ℕ
+brought h r block = take (r .count) (drop (h .count) block)
+
+-- A block with room for n bytes has those held and those read. `toTake` says how many are taken, and the others, a part of a record, are held for the next one.
+abbrev pub Divided : Held → ℕ → Input → Type 0
+Divided h n i =
+    (i .reading .filled ≡ h .count + i .reading .count) × (i .reading .filled ≤ n) × (i .taken ≡ toTake (i .reading .ended) (i .reading .filled)) × (i .taken + i .held .count ≡ i .reading .filled)
+    × PartOfRecord (i .held)
+
+-- Between turns, with the router and the arrivals in the lent areas.
+abbrev pub betweenOf : List ℕ → List ℕ → List ℕ → Code.Place → Held → Between
+betweenOf state memory arrivals p h = record { place = placeOf state memory arrivals p; held = bytesOf h }
 
 -- A turn at the input's end, with a failed read or with a failed write is the last.
 abbrev pub goesOn : TurnEnd → Bool

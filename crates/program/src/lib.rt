@@ -1,8 +1,8 @@
 // What the programs `tape` and `page` share: records from standard input, and what is printed of them to standard output as they come. What can't be read or written is said on standard error.
-ghost use Prim.Native.Nat.{_+_, _*_, _%_, _≤_, _<_, _^_};
+ghost use Prim.Native.Nat.{_+_, _*_, _≤_, _<_, _^_};
 ghost use mathlib.Core.Path.{_≡_};
-ghost use mathlib.Core.Bool.{true, false, cond};
-ghost use mathlib.Core.List.{[]};
+ghost use mathlib.Core.Bool.{true, cond};
+ghost use mathlib.Core.List.{[], _++_};
 ghost use lib.ListN.{length, take, drop};
 ghost use Rattle.rules.specs.Areas.{memoryLength, arrivalsLength};
 ghost use Rattle.rules.specs.Board.{board8};
@@ -12,7 +12,7 @@ ghost use Rattle.pages.specs.Values.{Unfilled};
 ghost use Rattle.tapes.specs.Printed.{printEnd};
 ghost use Rattle.tapes.specs.Blocks as Blocks;
 ghost use Rattle.tapes.specs.Values.{placeOf};
-ghost use Rattle.program.specs.Turns.{Divided, heldBy, goesOn};
+ghost use Rattle.program.specs.Turns.{bytesOf, PartOfRecord, brought, Divided, betweenOf, goesOn};
 use layout::Router;
 use libc::STDERR_FILENO;
 use libc::STDIN_FILENO;
@@ -48,8 +48,9 @@ fn write_out(name: &[u8], text: &[u8]) -> bool {
     written
 }
 
-// How many bytes a block has after a read, and whether the input has ended or can't be read.
+// How many bytes a read brought, how many the block has after it, and whether the input has ended or can't be read.
 struct Reading {
+    count: usize,
     filled: usize,
     ended: bool,
     failed: bool,
@@ -58,7 +59,7 @@ struct Reading {
 // Reads what is there, up to the end of a block whose first bytes are held.
 fn read_more(name: &[u8], block: &mut [u8], held: usize) -> Reading
     requires { ⌜ held < length (now block) ⌝ }
-    ensures { λ r. ⌜ (held ≤ r .filled) × (r .filled ≤ length (now (block .exit))) ⌝ }
+    ensures { λ r. ⌜ (r .filled ≡ held + r .count) × (r .filled ≤ length (now (block .exit))) ⌝ }
     ensures { λ r. ⌜ take held (now (block .exit)) ≡ take held (now (block .entry)) ⌝ }
 {
     let room = &mut block[held..];
@@ -68,6 +69,7 @@ fn read_more(name: &[u8], block: &mut [u8], held: usize) -> Reading
         say(name, b"standard input can't be read\n");
     }
     Reading {
+        count,
         filled: held + count,
         ended: got == 0,
         failed: got < 0,
@@ -76,8 +78,8 @@ fn read_more(name: &[u8], block: &mut [u8], held: usize) -> Reading
 
 // The bytes of a block to take: its whole records, and at the input's end the rest too.
 fn to_take(filled: usize, ended: bool) -> usize
+    ensures { λ r. ⌜ r ≡ Blocks.toTake ended filled ⌝ }
     ensures { λ r. ⌜ (r ≤ filled) × (filled < r + recordLength) ⌝ }
-    ensures { λ r. ⌜ (ended ≡ false → r % recordLength ≡ 0) ⌝ }
 {
     if ended {
         return filled;
@@ -85,34 +87,50 @@ fn to_take(filled: usize, ended: bool) -> usize
     filled - filled % records::RECORD
 }
 
-// What was read, and how many bytes of the block are to be taken; those after them are held for the next.
+// The bytes held from one turn to the next: the first ones of a record that has not all come.
+struct Held {
+    bytes: [u8; records::RECORD],
+    count: usize,
+}
+
+fn hold(rest: &[u8]) -> Held
+    requires { ⌜ length (now rest) < recordLength ⌝ }
+    ensures { λ r. ⌜ (bytesOf r ≡ now (rest .entry)) × (r .count ≡ length (now (rest .entry))) × PartOfRecord r ⌝ }
+{
+    let mut bytes = [0u8; records::RECORD];
+    layout::copy_in(rest, &mut bytes, 0);
+    Held {
+        bytes,
+        count: rest.len(),
+    }
+}
+
+// What was read, how many bytes of the block are to be taken, and those after them, which are held.
 struct Input {
     reading: Reading,
     taken: usize,
+    held: Held,
 }
 
 // A block: the bytes held, and what is read after them. The first bytes of a record that has not all come are held again.
-fn take_in(name: &[u8], block: &mut [u8], rest: &mut [u8], held: usize) -> Input
-    requires { ⌜ (length (now block) ≡ 1024 * recordLength) × (length (now rest) ≡ recordLength) × (held < recordLength) ⌝ }
-    ensures { λ r. ⌜ take held (now (block .exit)) ≡ take held (now (rest .entry)) ⌝ }
-    ensures { λ r. ⌜ take (heldBy r) (now (rest .exit)) ≡ take (heldBy r) (drop (r .taken) (now (block .exit))) ⌝ }
-    ensures { λ r. ⌜ Divided (length (now (block .exit))) r ⌝ }
+fn take_in(name: &[u8], block: &mut [u8], held: Held) -> Input
+    requires { ⌜ (length (now block) ≡ 1024 * recordLength) × PartOfRecord held ⌝ }
+    ensures { λ r. ⌜ take (r .reading .filled) (now (block .exit)) ≡ bytesOf held ++ brought held (r .reading) (now (block .exit)) ⌝ }
+    ensures { λ r. ⌜ bytesOf (r .held) ≡ drop (r .taken) (take (r .reading .filled) (now (block .exit))) ⌝ }
+    ensures { λ r. ⌜ Divided held (length (now (block .exit))) r ⌝ }
 {
-    layout::copy_in(&rest[..held], block, 0);
-    let reading = read_more(name, block, held);
+    let bytes = held.bytes;
+    let count = held.count;
+    layout::copy_in(&bytes[..count], block, 0);
+    let reading = read_more(name, block, count);
     let filled = reading.filled;
     let taken = to_take(filled, reading.ended);
-    layout::copy_in(&block[taken..filled], rest, 0);
-    Input { reading, taken }
-}
-
-// How many bytes are held.
-fn held_after(input: Input) -> usize
-    requires { ⌜ input .taken ≤ input .reading .filled ⌝ }
-    ensures { λ r. ⌜ r ≡ heldBy input ⌝ }
-{
-    let reading = input.reading;
-    reading.filled - input.taken
+    let held = hold(&block[taken..filled]);
+    Input {
+        reading,
+        taken,
+        held,
+    }
 }
 
 // What goes out at the input's end, after a place.
@@ -178,22 +196,20 @@ fn turn(
     memory: &mut [u8],
     arrivals: &mut [u8],
     place: Place,
+    held: Held,
     block: &mut [u8],
-    rest: &mut [u8],
-    held: usize,
     lines: &mut [u8],
 ) -> TurnEnd
-    requires { ⌜ (length (now arrivals) ≡ arrivalsLength) × (length (now block) ≡ 1024 * recordLength) × (length (now rest) ≡ recordLength) × (length (now lines) ≡ 1024 * 161 + 4526)
-        × (held < recordLength) × (place .number < 2 ^ 58) × Unfilled (place .page) ⌝ }
-    ensures { λ r. ⌜ _≡_ {A = Blocks.Turned}
-        (record { place = placeOf (now (state .exit)) (now (memory .exit)) (now (arrivals .exit)) (r .printed .place); text = take (r .printed .length) (now (lines .exit)) })
-        (Blocks.withEnd style (r .input .reading .ended) (Blocks.turned style (placeOf (now (state .entry)) (now (memory .entry)) (now (arrivals .entry)) place) (take (r .input .taken) (now (block .exit))))) ⌝ }
-    ensures { λ r. ⌜ take held (now (block .exit)) ≡ take held (now (rest .entry)) ⌝ }
-    ensures { λ r. ⌜ take (heldBy (r .input)) (now (rest .exit)) ≡ take (heldBy (r .input)) (drop (r .input .taken) (now (block .exit))) ⌝ }
-    ensures { λ r. ⌜ Divided (length (now (block .exit))) (r .input) × Unfilled (r .printed .place .page) ⌝ }
+    requires { ⌜ (length (now arrivals) ≡ arrivalsLength) × (length (now block) ≡ 1024 * recordLength) × (length (now lines) ≡ 1024 * 161 + 4526)
+        × PartOfRecord held × (place .number < 2 ^ 58) × Unfilled (place .page) ⌝ }
+    ensures { λ r. ⌜ take (r .input .reading .filled) (now (block .exit)) ≡ bytesOf held ++ brought held (r .input .reading) (now (block .exit)) ⌝ }
+    ensures { λ r. ⌜ _≡_ {A = Blocks.Turn}
+        (record { left = betweenOf (now (state .exit)) (now (memory .exit)) (now (arrivals .exit)) (r .printed .place) (r .input .held); text = take (r .printed .length) (now (lines .exit)) })
+        (Blocks.turn style (r .input .reading .ended) (betweenOf (now (state .entry)) (now (memory .entry)) (now (arrivals .entry)) place held) (brought held (r .input .reading) (now (block .exit)))) ⌝ }
+    ensures { λ r. ⌜ Divided held (length (now (block .exit))) (r .input) × Unfilled (r .printed .place .page) ⌝ }
     ensures { λ r. ⌜ r .more ≡ goesOn r ⌝ }
 {
-    let input = take_in(name, block, rest, held);
+    let input = take_in(name, block, held);
     let reading = input.reading;
     let taken = input.taken;
     let printed = print_block(
@@ -217,14 +233,19 @@ fn turn(
 
 // Before the first turn: nothing has come in, and there is more to do.
 fn unread(place: Place) -> TurnEnd
-    ensures { λ r. ⌜ (r .printed .place ≡ place) × (r .input .taken ≡ 0) × Divided 0 (r .input) × (r .more ≡ true) × (r .more ≡ goesOn r) ⌝ }
+    ensures { λ r. ⌜ (r .printed .place ≡ place) × (r .input .held .count ≡ 0) × PartOfRecord (r .input .held) × (r .more ≡ true) × (r .more ≡ goesOn r) ⌝ }
 {
     let reading = Reading {
+        count: 0,
         filled: 0,
         ended: false,
         failed: false,
     };
-    let input = Input { reading, taken: 0 };
+    let input = Input {
+        reading,
+        taken: 0,
+        held: hold(b""),
+    };
     let printed = Printed {
         place,
         length: 0,
@@ -237,10 +258,11 @@ fn unread(place: Place) -> TurnEnd
     }
 }
 
-// How the last turn ended, and how many reads there were.
+// How the last turn ended, how many reads there were, one in each turn, and how many bytes they brought.
 struct Ran {
     end: TurnEnd,
     reads: u64,
+    bytes: u64,
 }
 
 // The whole tape, turn after turn.
@@ -251,22 +273,24 @@ fn run(
     memory: &mut [u8],
     arrivals: &mut [u8],
     block: &mut [u8],
-    rest: &mut [u8],
     lines: &mut [u8],
 ) -> Ran
     requires { ⌜ (length (now state) ≡ board8 .stateLength) × (length (now memory) ≡ memoryLength) × (length (now arrivals) ≡ arrivalsLength) × (length (now block) ≡ 1024 * recordLength)
-        × (length (now rest) ≡ recordLength) × (length (now lines) ≡ 1024 * 161 + 4526) ⌝ }
-    ensures { λ r. ⌜ Blocks.Reached style (take (r .end .input .taken) (now (block .exit))) (placeOf (now (state .exit)) (now (memory .exit)) (now (arrivals .exit)) (r .end .printed .place)) ⌝ }
+        × (length (now lines) ≡ 1024 * 161 + 4526) ⌝ }
+    ensures { λ r. ⌜ Blocks.Reached style (r .end .input .reading .ended) (r .reads) (r .bytes) (take (r .end .input .reading .filled) (now (block .exit)))
+        (betweenOf (now (state .exit)) (now (memory .exit)) (now (arrivals .exit)) (r .end .printed .place) (r .end .input .held)) ⌝ }
     ensures { λ r. ⌜ r .end .more ≡ goesOn (r .end) ⌝ }
     ensures { λ r. ⌜ (r .end .more ≡ true → r .reads ≡ 2 ^ 48) ⌝ }
 {
     let place = stepping::begin(state, memory, arrivals);
     let mut end = unread(place);
     let mut reads: u64 = 0;
+    let mut bytes: u64 = 0;
     while end.more & (reads < READS) {
         let printed = end.printed;
         let place = printed.place;
-        let held = held_after(end.input);
+        let input = end.input;
+        let held = input.held;
         end = turn(
             name,
             style,
@@ -274,14 +298,16 @@ fn run(
             memory,
             arrivals,
             place,
-            block,
-            rest,
             held,
+            block,
             lines,
         );
+        let input = end.input;
+        let reading = input.reading;
         reads += 1;
+        bytes += reading.count as u64;
     }
-    Ran { end, reads }
+    Ran { end, reads, bytes }
 }
 
 // Prints a tape: the program of that name.
@@ -290,7 +316,6 @@ pub fn print(name: &[u8], style: Style) {
     let mut memory = [0u8; Router::MEMORY];
     let mut arrivals = [0u8; Router::ARRIVALS];
     let mut block = [0u8; BLOCK];
-    let mut rest = [0u8; records::RECORD];
     let mut lines = [0u8; LINES];
     let ran = run(
         name,
@@ -299,7 +324,6 @@ pub fn print(name: &[u8], style: Style) {
         &mut memory,
         &mut arrivals,
         &mut block,
-        &mut rest,
         &mut lines,
     );
     let end = ran.end;

@@ -1,70 +1,95 @@
--- The tape as a whole: joined inputs are one input, so blocks of whole records and a last one print what their bytes print. Assumes nothing.
-use Prim.Native.Nat.{ℕ, _+_, _*_, _%_}
-use mathlib.Core.Path.{_≡_, refl, ap, _∙_}
+-- The tape as a whole: joined inputs are one input, so the whole records of a turn, and then what is held and read after them, print what their bytes print. Assumes nothing.
+use Prim.Native.Nat.{ℕ, _+_, _*_}
+use mathlib.Core.Path.{_≡_, refl, sym, ap, _∙_}
+use mathlib.Core.Bool.{Bool, false}
 use mathlib.Core.List.{List, [], _∷_, _++_, append-nil, append-assoc, flatten}
-use native.Mathlib.Nat.{add-zero}
 use native.Mathlib.Omega.{arith}
-use lib.ListN.{length, length-append}
+use lib.ListN.{length, length-append, take, drop, take-append-drop}
+use lib.Seq.{take-length, length-take-le}
 use Rattle.records.specs.Records.{recordLength, recordsIn}
 use Rattle.events.specs.Tape.{after, eventsOf}
 use Rattle.events.proofs.Joined.{after-joined}
-use Rattle.pages.specs.Printing.{Paged, inOrder}
+use Rattle.pages.specs.Printing.{Paged}
 use Rattle.tapes.specs.declared.printing.Style.{Style}
 use Rattle.tapes.specs.Printed.{printEvents, printEnd}
-use Rattle.tapes.specs.Blocks.{Place, begin, Turned, turned, withEnd, looped, Whole, BlocksPrintTheTape, Reached}
+use Rattle.tapes.specs.Blocks.{Between, unread, turned, withEnd, toTake, turn, looped, ReadsPrintTheTape, Reached}
 use Rattle.tapes.proofs.Texts.{print-append, all-printed}
 
--- ---- blocks
+-- ---- reads
 
 module _ (style : Style) where
-  abbrev pagedOf : Turned → Paged
-  pagedOf o = record { page = o .place .page; text = o .text }
+  -- Turns over reads, and then all that is held, with a last read.
+  abbrev then-all : Between → List (List ℕ) → List ℕ → Paged
+  then-all b reads last =
+      let o = looped style b reads in
+      let t = turned style (o .left .place) (o .left .held ++ last) in
+      record { page = t .place .page; text = o .text ++ t .text }
 
-  looped-joined : (p : Place) (blocks : List (List ℕ)) (last : List ℕ) → Whole blocks
-      → pagedOf (looped style p (blocks ++ (last ∷ []))) ≡ printEvents style (p .page) (after (p .tape) (p .number) (flatten blocks ++ last) (recordsIn (flatten blocks ++ last)) .events)
-  unfolding looped turned flatten Whole
-  looped-joined p [] last w = rw (append-nil (turned style p last .text))
-  looped-joined p (b ∷ bs) last w =
-      let rest = flatten bs ++ last in
-      let whole : length b ≡ recordLength * recordsIn b = omega (arith, w .0) in
-      let sum : recordsIn (b ++ rest) ≡ recordsIn b + recordsIn rest = omega (arith, length-append b rest, whole) in
-      rw (append-assoc b (flatten bs) last, sum, after-joined (p .tape) (p .number) b rest (recordsIn b) whole (recordsIn rest), print-append)
-      (ap (λ (o : Paged). record { page = o .page; text = turned style p b .text ++ o .text }) (looped-joined (turned style p b .place) bs last (w .1)))
+  looped-joined : (b : Between) (reads : List (List ℕ)) (last : List ℕ)
+      → then-all b reads last
+      ≡ printEvents style (b .place .page) (after (b .place .tape) (b .place .number) (b .held ++ (flatten reads ++ last)) (recordsIn (b .held ++ (flatten reads ++ last))) .events)
+  unfolding looped turn turned withEnd toTake flatten
+  looped-joined b [] last = refl
+  looped-joined b (r ∷ rs) last =
+      let p = b .place in
+      let block = b .held ++ r in
+      let n = toTake false (length block) in
+      let a = take n block in
+      let o = turned style p a in
+      let rest = flatten rs ++ last in
+      let next = drop n block ++ rest in
+      let input : b .held ++ ((r ++ flatten rs) ++ last) ≡ a ++ next = ap (λ (l : List ℕ). b .held ++ l) (append-assoc r (flatten rs) last) ∙ sym (append-assoc (b .held) r rest) ∙ ap (λ (l : List ℕ). l ++ rest) (sym (take-append-drop n block)) ∙ append-assoc a (drop n block) rest in
+      let whole : length a ≡ recordLength * recordsIn a = omega (arith, length-take-le n block (omega arith)) in
+      let sum : recordsIn (a ++ next) ≡ recordsIn a + recordsIn next = omega (arith, length-append a next, whole) in
+      rw (input, sum, after-joined (p .tape) (p .number) a next (recordsIn a) whole (recordsIn next), print-append, append-nil (o .text), append-assoc)
+      (ap (λ (t : Paged). record { page = t .page; text = o .text ++ t .text }) (looped-joined (record { place = o .place; held = drop n block }) rs last))
 
-pub blocks-print-the-tape : BlocksPrintTheTape
-unfolding BlocksPrintTheTape withEnd eventsOf
-blocks-print-the-tape style blocks last w = ap (λ (o : Paged). o .text ++ printEnd style (o .page)) (looped-joined style begin blocks last w) ∙ all-printed style (flatten blocks ++ last)
+pub reads-print-the-tape : ReadsPrintTheTape
+unfolding ReadsPrintTheTape turn withEnd toTake eventsOf
+reads-print-the-tape style reads last =
+    let o = looped style unread reads in
+    rw (take-length (o .left .held ++ last), ← append-assoc)
+    (ap (λ (t : Paged). t .text ++ printEnd style (t .page)) (looped-joined style unread reads last) ∙ all-printed style (flatten reads ++ last))
 
 -- ---- the loop, turn after turn
 
-looped-then : (style : Style) (p : Place) (blocks : List (List ℕ)) (last : List ℕ) → looped style p (blocks ++ (last ∷ [])) .place ≡ turned style (looped style p blocks .place) last .place
+looped-then : (style : Style) (b : Between) (reads : List (List ℕ)) (read : List ℕ) → looped style b (reads ++ (read ∷ [])) .left ≡ turn style false (looped style b reads .left) read .left
 unfolding looped
-looped-then style p [] last = refl
-looped-then style p (b ∷ bs) last = looped-then style (turned style p b .place) bs last
+looped-then style b [] read = refl
+looped-then style b (x ∷ xs) read = looped-then style (turn style false b x .left) xs read
 
-whole-then : (blocks : List (List ℕ)) (b : List ℕ) → Whole blocks → length b % recordLength ≡ 0 → Whole (blocks ++ (b ∷ []))
-unfolding Whole
-whole-then [] b w h = (h, tt)
-whole-then (x ∷ xs) b w h = (w .0, whole-then xs b (w .1) h)
+flatten-then : (reads : List (List ℕ)) (read : List ℕ) → flatten (reads ++ (read ∷ [])) ≡ flatten reads ++ read
+unfolding flatten
+flatten-then [] read = append-nil read
+flatten-then (x ∷ xs) read = rw (flatten-then xs read, append-assoc x (flatten xs) read)
 
--- After blocks of whole records only.
-abbrev pub Passed : Style → Place → Type 0
-Passed style p = (blocks : List (List ℕ)) × Whole blocks × (p ≡ looped style begin blocks .place)
+-- After so many turns, none of them at the input's end, whose reads brought so many bytes.
+pub record Passed (style : Style) (turns bytes : ℕ) (b : Between) : Type 0 where
+  pub reads : List (List ℕ)
+  pub each : length reads ≡ turns
+  pub all : length (flatten reads) ≡ bytes
+  pub left : b ≡ looped style unread reads .left
 
-pub passed-none : (style : Style) (p : Place) → p ≡ begin → Passed style p
-unfolding Whole looped
-passed-none style p e = ([], tt, e)
+pub passed-none : (style : Style) (b : Between) → b ≡ unread → Passed style 0 0 b
+unfolding looped flatten
+passed-none style b e = record { reads = []; each = refl; all = refl; left = e }
 
-pub passed-whole : (style : Style) (b : List ℕ) (p : Place) → Reached style b p → length b % recordLength ≡ 0 → Passed style p
-unfolding Reached
-passed-whole style b p r h = (r .0 ++ (b ∷ []), whole-then (r .0) b (r .1) h, r .2)
+pub passed-on : {style : Style} {ended : Bool} {turns bytes : ℕ} {block : List ℕ} {b : Between} → Reached style ended turns bytes block b → ended ≡ false → Passed style turns bytes b
+passed-on {style} r going = record {
+  reads = r .reads ++ (r .last ∷ []);
+  each = length-append (r .reads) (r .last ∷ []) ∙ r .each;
+  all = ap length (flatten-then (r .reads) (r .last)) ∙ r .all;
+  left = r .left ∙ rw going (sym (looped-then style unread (r .reads) (r .last)));
+}
 
 -- A turn more.
-pub reached-then : (style : Style) (p : Place) → Passed style p → (b : List ℕ) (q : Place) → q ≡ turned style p b .place → Reached style b q
-unfolding Reached
-reached-then style p passed b q e = (passed .0, passed .1, rw (looped-then style begin (passed .0) b, ← passed .2, e))
-
--- A turn of nothing.
-pub reached-none : (style : Style) (p : Place) → p ≡ begin → Reached style [] p
-unfolding turned after inOrder
-reached-none style p e = reached-then style p (passed-none style p e) [] p (rw (add-zero (p .number)))
+pub reached-then : {style : Style} {turns bytes : ℕ} {b : Between} → Passed style turns bytes b → (ended : Bool) (read block : List ℕ) (q : Between) → block ≡ b .held ++ read → q ≡ turn style ended b read .left
+    → Reached style ended (turns + 1) (bytes + length read) block q
+reached-then p ended read block q joined left = record {
+  reads = p .reads;
+  last = read;
+  each = omega (arith, p .each);
+  all = length-append (flatten (p .reads)) read ∙ rw (p .all);
+  joined = rw (← p .left) (sym joined);
+  left = rw (← p .left) left;
+}

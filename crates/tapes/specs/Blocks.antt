@@ -1,9 +1,9 @@
--- A tape read in blocks, as the programs `tape` and `page` read it, and the claim that this prints what is printed of the tape as a whole. Assumes nothing.
-use Prim.Native.Nat.{ℕ, _+_, _%_}
+-- A tape read in pieces, as the programs `tape` and `page` read it, and the claim that this prints what is printed of the tape as a whole. Assumes nothing.
+use Prim.Native.Nat.{ℕ, _+_, _*_, _/_}
 use mathlib.Core.Path.{_≡_}
-use mathlib.Core.Bool.{Bool, true, cond}
+use mathlib.Core.Bool.{Bool, true, false, cond}
 use mathlib.Core.List.{List, [], _∷_, _++_, flatten}
-use lib.ListN.{length}
+use lib.ListN.{length, take, drop}
 use Rattle.records.specs.Records.{recordLength, recordsIn}
 use Rattle.events.specs.Tape.{Tape, start, after}
 use Rattle.pages.specs.declared.Page.{Page}
@@ -20,7 +20,7 @@ pub record Place : Type 0 where
 abbrev pub begin : Place
 begin = record { tape = start; number = 0; page = unbegun 1 }
 
--- One turn of the loop, `stepping::run` of the bytes that were read: the place after them, and their text.
+-- The records of a block, as `stepping::run` takes them: the place after them, and their text.
 pub record Turned : Type 0 where
   pub place : Place
   pub text : List ℕ
@@ -35,24 +35,51 @@ turned style p block =
 unfoldable pub withEnd : Style → Bool → Turned → Turned
 withEnd style last o = record { place = o .place; text = o .text ++ cond last (printEnd style (o .place .page)) [] }
 
--- The loop, over the blocks in the order of their reading: each turn gets the place that the last left, and its text comes after those before.
-unfoldable pub looped : Style → Place → List (List ℕ) → Turned
-looped style p [] = record { place = p; text = [] }
-looped style p (block ∷ blocks) =
-    let o = turned style p block in
-    let rest = looped style (o .place) blocks in
-    record { place = rest .place; text = o .text ++ rest .text }
+-- Between turns: the place, and the bytes held, the first ones of a record that has not all come.
+pub record Between : Type 0 where
+  pub place : Place
+  pub held : List ℕ
 
--- Each block has whole records only.
-unfoldable pub Whole : List (List ℕ) → Type 0
-Whole [] = Unit {0}
-Whole (block ∷ blocks) = (length block % recordLength ≡ 0) × Whole blocks
+abbrev pub unread : Between
+unread = record { place = begin; held = [] }
 
--- The claim. Of the last block nothing is asked: it may be empty, or end in a rest of fewer than 24 bytes.
-unfoldable pub BlocksPrintTheTape : Type 0
-BlocksPrintTheTape = (style : Style) (blocks : List (List ℕ)) (last : List ℕ) → Whole blocks
-    → withEnd style true (looped style begin (blocks ++ (last ∷ []))) .text ≡ printed style (flatten blocks ++ last)
+-- Of so many bytes those of whole records are taken, and at the input's end all.
+unfoldable pub toTake : Bool → ℕ → ℕ
+toTake ended n = cond ended n (recordLength * (n / recordLength))
 
--- The place is that after such blocks, of which the last is known.
-unfoldable pub Reached : Style → List ℕ → Place → Type 0
-Reached style last p = (blocks : List (List ℕ)) × Whole blocks × (p ≡ looped style begin (blocks ++ (last ∷ [])) .place)
+-- One turn of the loop: what it leaves for the next one, and its text.
+pub record Turn : Type 0 where
+  pub left : Between
+  pub text : List ℕ
+
+-- Its block is the bytes held, and then those that a read brought. What is not taken is held.
+unfoldable pub turn : Style → Bool → Between → List ℕ → Turn
+turn style ended b read =
+    let block = b .held ++ read in
+    let n = toTake ended (length block) in
+    let o = withEnd style ended (turned style (b .place) (take n block)) in
+    record { left = record { place = o .place; held = drop n block }; text = o .text }
+
+-- The loop, over the reads in their order: each turn gets what the last left, and its text comes after those before.
+unfoldable pub looped : Style → Between → List (List ℕ) → Turn
+looped style b [] = record { left = b; text = [] }
+looped style b (read ∷ reads) =
+    let o = turn style false b read in
+    let rest = looped style (o .left) reads in
+    record { left = rest .left; text = o .text ++ rest .text }
+
+-- The claim: however the reads cut the records, the text of the turns before the input's end and that of the turn there are what is printed of all bytes read.
+unfoldable pub ReadsPrintTheTape : Type 0
+ReadsPrintTheTape = (style : Style) (reads : List (List ℕ)) (last : List ℕ) →
+    let o = looped style unread reads in
+    o .text ++ turn style true (o .left) last .text ≡ printed style (flatten reads ++ last)
+
+-- What a loop is to have come to, of which are known how many turns it made, how many bytes their reads brought in all, the bytes of the last block, and whether the input ended there: what is left is what such reads leave.
+-- A byte held that gets lost or is taken twice makes the bytes in records and in the last block another number than were read, and then there are no such reads. Which bytes the reads brought it doesn't say, but for the last block.
+pub record Reached (style : Style) (ended : Bool) (turns bytes : ℕ) (block : List ℕ) (b : Between) : Type 0 where
+  pub reads : List (List ℕ)
+  pub last : List ℕ
+  pub each : length reads + 1 ≡ turns
+  pub all : length (flatten reads ++ last) ≡ bytes
+  pub joined : looped style unread reads .left .held ++ last ≡ block
+  pub left : b ≡ turn style ended (looped style unread reads .left) last .left

@@ -1,131 +1,176 @@
--- `run` meets its contract and ends. The loop's invariant: the areas keep their lengths, the place is reached by the blocks taken so far, and where there is more to do those had whole records.
+-- `run` meets its contract and ends. The loop's invariant: the areas keep their lengths, and what is left is what the turns made so far leave, over as many reads and as many bytes as were counted; where there is more to do, none of these was at the input's end.
 -- The measure is what is left of the bound on reads. Assumes nothing.
-use Prim.Native.Nat.{ℕ, _+_, _*_, _-_, _≤_}
-use mathlib.Core.Path.{_≡_, sym, ap, _∙_}
-use mathlib.Core.Bool.{true}
-use mathlib.Core.List.{List}
+use Prim.Native.Nat.{ℕ, zero, suc, _+_, _*_, _-_, _≤_, _<_}
+use mathlib.Core.Path.{_≡_, refl, sym, ap, _∙_}
+use mathlib.Core.Bool.{Bool, true, false, true≢false, _&&_}
+use mathlib.Core.List.{List, _++_}
 use native.Mathlib.Omega.{arith}
-use lib.ListN.{length, length-take, take}
+use lib.Dec.{ltb}
+use lib.ListN.{length, length-take, length-drop, take, drop}
 use borrow.Author.Needs.{needs}
 use borrow.Author.Tests.{ltb-true, ltb-false}
 use Rattle.rules.proofs.Booleans.{and-left, and-right, not-false}
 use Rattle.records.specs.Records.{recordLength}
 use Rattle.pages.specs.Values.{Unfilled}
 use Rattle.tapes.specs.declared.printing.Style.{Style}
-use Rattle.tapes.specs.Blocks.{Place, begin, Turned, turned, withEnd, Reached}
+use Rattle.tapes.specs.Blocks.{Place, begin, turned, withEnd, Between, unread, toTake, Turn, turn, Reached}
 use Rattle.tapes.specs.Values.{placeOf}
-use Rattle.tapes.proofs.Blocks.{Passed, passed-none, passed-whole, reached-none, reached-then}
+use Rattle.tapes.proofs.Blocks.{Passed, passed-none, passed-on, reached-then}
+use Rattle.program.specs.declared.Held.{Held}
 use Rattle.program.specs.declared.TurnEnd.{TurnEnd}
-use Rattle.program.specs.Turns.{Divided, goesOn}
+use Rattle.program.specs.Turns.{bytesOf, PartOfRecord, brought, Divided, betweenOf, goesOn}
 use Rattle.program.proofs.run.Statement.{statement}
 use Rattle.program.proofs.run.Tie as tie
 
--- After a turn whose block was divided so: the place is reached; if there is more to do, it is passed, and has at most 1,024 records more.
-module _ (style : Style) (t : TurnEnd) (p q : Place) (block l : List ℕ)
-    (e : _≡_ {A = Turned} (record { place = q; text = l }) (withEnd style (t .input .reading .ended) (turned style p (take (t .input .taken) block)))) (passed : Passed style p) where
-  abbrev taken : List ℕ
-  taken = take (t .input .taken) block
+-- After a turn: what is left is reached by one read more; if there is more to do, the input has not ended, and the place has at most 1,024 records more.
+module _ (style : Style) (t : TurnEnd) (h : Held) (b q : Between) (block l : List ℕ) (reads bytes : ℕ) (passed : Passed style reads bytes b)
+    (joined : take (t .input .reading .filled) block ≡ b .held ++ brought h (t .input .reading) block)
+    (e : _≡_ {A = Turn} (record { left = q; text = l }) (turn style (t .input .reading .ended) b (brought h (t .input .reading) block)))
+    (full : length block ≡ 1024 * recordLength) (divided : Divided h (length block) (t .input)) (goes-on : t .more ≡ goesOn t) where
+  abbrev read : List ℕ
+  read = brought h (t .input .reading) block
 
-  after-turn : q ≡ turned style p taken .place
-  unfolding withEnd
-  after-turn = ap (λ (o : Turned). o .place) e
+  counted : length read ≡ t .input .reading .count
+  counted = omega (arith, length-take (t .input .reading .count) (drop (h .count) block), length-drop (h .count) block, divided .0, divided .1)
 
-  pub turn-reached : Reached style taken q
-  turn-reached = reached-then style p passed taken q after-turn
+  abbrev Next : ℕ → ℕ → Type 0
+  Next n m = Reached style (t .input .reading .ended) n m (take (t .input .reading .filled) block) q × (t .more ≡ true → Passed style n m q) × (q .place .number ≤ b .place .number + 1024)
 
-  pub turn-passed : length block ≡ 1024 * recordLength → Divided (length block) (t .input) → t .more ≡ goesOn t → t .more ≡ true → Passed style q × (q .number ≤ p .number + 1024)
-  unfolding turned
-  turn-passed full divided goes-on more =
-      let many = length-take (t .input .taken) block in
-      let going = not-false _ (and-left _ _ (and-left _ _ (sym goes-on ∙ more))) in
-      let whole = divided .3 going in
-      (passed-whole style taken q turn-reached (omega (arith, many, whole, divided .0, divided .1)), omega (arith, ap (λ (r : Place). r .number) after-turn, many, divided .0, divided .1, full))
+  pub after-turn : Next (reads + 1) (bytes + t .input .reading .count)
+  unfolding turn withEnd turned
+  after-turn =
+      let r = reached-then passed (t .input .reading .ended) read (take (t .input .reading .filled) block) q joined (ap (λ (o : Turn). o .left) e) in
+      let n = toTake (t .input .reading .ended) (length (b .held ++ read)) in
+      rw (← counted)
+      (r, (λ more. passed-on r (not-false _ (and-left _ _ (and-left _ _ (sym goes-on ∙ more))))), omega (arith, ap (λ (o : Turn). o .left .place .number) e, length-take n (b .held ++ read), ap length joined, length-take (t .input .reading .filled) block, full))
 
 -- Before the first turn.
 module _ (p : Place) (e : p ≡ begin) where
-  pub begun-reached : (style : Style) (n : ℕ) (block : List ℕ) → n ≡ 0 → Reached style (take n block) p
-  begun-reached style n block none = rw none (reached-none style p e)
+  begun : (h : Held) → h .count ≡ 0 → _≡_ {A = Between} (record { place = p; held = bytesOf h }) unread
+  begun h none = rw (e, none)
 
-  pub begun-passed : (style : Style) → Passed style p × (p .number ≤ 1024 * 0)
-  begun-passed style = (passed-none style p e, omega (arith, ap (λ (r : Place). r .number) e))
-
-  pub begun-page : Unfilled (p .page)
+  begun-page : Unfilled (p .page)
   begun-page = rw e (omega arith, omega arith, omega arith)
 
+-- The loop stops after a turn.
+stopped : (more : Bool) (reads : ℕ) → (more && ltb reads 281474976710656) ≡ false → (reads ≡ 0 → more ≡ true) → 0 < reads
+stopped true reads left first = omega (arith, ltb-false reads 281474976710656 left)
+stopped false zero left first = absurd (true≢false (sym (first refl)))
+stopped false (suc reads) left first = omega arith
+
+pub record SoFar (style : Style) (block : List ℕ) (b : Between) (end : TurnEnd) (reads bytes : ℕ) : Type 0 where
+  pub within : reads ≤ 281474976710656
+  pub few : bytes ≤ 1024 * recordLength * reads
+  pub part : PartOfRecord (end .input .held)
+  pub page : Unfilled (end .printed .place .page)
+  pub goes-on : end .more ≡ goesOn end
+  pub first : (reads ≡ 0 → end .more ≡ true)
+  pub reached : (0 < reads → Reached style (end .input .reading .ended) reads bytes (take (end .input .reading .filled) block) b)
+  pub passed : (end .more ≡ true → Passed style reads bytes b × (b .place .number ≤ 1024 * reads))
+
 abbrev Inv-loop : tie.InvT-loop
-Inv-loop name style state₀ memory₀ arrivals₀ block₀ rest₀ lines₀ end₀ reads₀ state memory arrivals block rest lines end reads =
-    let p = placeOf state memory arrivals (end .printed .place) in
-    ((length state ≡ length state₀) × (length memory ≡ length memory₀) × (length arrivals ≡ length arrivals₀) × (length block ≡ length block₀) × (length rest ≡ length rest₀) × (length lines ≡ length lines₀))
-    × (reads ≤ 281474976710656) × Divided (length block) (end .input) × Unfilled (end .printed .place .page) × (end .more ≡ goesOn end) × Reached style (take (end .input .taken) block) p
-    × (end .more ≡ true → Passed style p × (p .number ≤ 1024 * reads))
+Inv-loop name style state₀ memory₀ arrivals₀ block₀ lines₀ end₀ reads₀ bytes₀ state memory arrivals block lines end reads bytes =
+    ((length state ≡ length state₀) × (length memory ≡ length memory₀) × (length arrivals ≡ length arrivals₀) × (length block ≡ length block₀) × (length lines ≡ length lines₀))
+    × SoFar style block (betweenOf state memory arrivals (end .printed .place) (end .input .held)) end reads bytes
 
 abbrev μ-loop : tie.MeasureT-loop
-μ-loop name style state₀ memory₀ arrivals₀ block₀ rest₀ lines₀ end₀ reads₀ state memory arrivals block rest lines end reads = 281474976710656 - reads
+μ-loop name style state₀ memory₀ arrivals₀ block₀ lines₀ end₀ reads₀ bytes₀ state memory arrivals block lines end reads bytes = 281474976710656 - reads
 
 loop-holds : tie.Need-loop-holds Inv-loop μ-loop
 loop-holds c =
     let u = c .unread .ensures in
-    let begun = rw (← u .0) at (c .before .before .before .before .before .before .before .begin .ensures) in
-    let d = u .2 in
-    (search needs, search needs, (omega (arith, d .0), d .1, d .2, d .3), begun-page _ begun, u .4, begun-reached _ begun _ _ _ (u .1), λ more. begun-passed _ begun _)
-
-held-after-requires : tie.Need-held-after-requires Inv-loop μ-loop
-held-after-requires c κs = c .before .before .before .before .loop .inv .2 .1
+    let e = rw (← u .0) at (c .before .before .before .before .before .before .before .begin .ensures) in
+    let b = begun _ e (c .unread .result .input .held) (u .1) in (
+      search needs,
+      record {
+        within = omega arith;
+        few = omega arith;
+        part = u .2;
+        page = begun-page _ e;
+        goes-on = u .4;
+        first = λ none. u .3;
+        reached = λ some. absurd (omega arith);
+        passed = λ more. (passed-none _ _ b, omega (arith, ap (λ (r : Between). r .place .number) b));
+      },
+    )
 
 turn-requires : tie.Need-turn-requires Inv-loop μ-loop
 turn-requires c κs =
     let test = c .before .before .before .before .before .before .before .before .before in
     let l = test .before .before .loop in
+    let s = l .inv .1 in
     let begun = test .before .before .before .before .before in
-    let p = begun .before .before .before .before .before .before .before .before .before .before .before .before .before .before .before .before .pre in (
+    let p = begun .before .before .before .before .before .before .before .before .before .before .before .before .before .before .before .pre in (
       omega (arith, l .inv .0 .2, begun .arrivals .given, p .2),
       omega (arith, l .inv .0 .3, p .3),
       omega (arith, l .inv .0 .4, p .4),
-      omega (arith, l .inv .0 .5, p .5),
-      omega (arith, c .before .before .before .before .before .before .held-after .ensures, l .inv .2 .2),
-      omega (arith, l .inv .6 (and-left _ _ (test .if1 .taken)) .1, ltb-true (l .reads) _ (and-right (l .end .more) _ (test .if1 .taken))),
-      l .inv .3,
+      (search needs, search needs),
+      omega (arith, s .passed (and-left _ _ (test .if1 .taken)) .1, ltb-true (l .reads) _ (and-right (l .end .more) _ (test .if1 .taken))),
+      s .page,
     )
 
+-- At the end of a turn: the test that led there, and the bound on what the read brought.
+module _ (c : tie.After-reading Inv-loop μ-loop) where
+  abbrev turn-at : tie.After-turn Inv-loop μ-loop
+  turn-at = c .before .before .before .before .before .before .before .before .before .before .before .before
+
+  abbrev test-at : tie.Then1 Inv-loop μ-loop
+  test-at = turn-at .before .before .before .before .before .before .before .before .before .before
+
+  abbrev loop-at : tie.At-loop Inv-loop μ-loop
+  loop-at = test-at .before .before
+
+  below : loop-at .loop .reads < 281474976710656
+  below = ltb-true (loop-at .loop .reads) _ (and-right (loop-at .loop .end .more) _ (test-at .if1 .taken))
+
+  full : length (turn-at .turn .last .1 .1 .1 .1 .1 .1 .1 .0) ≡ 1024 * recordLength
+  full =
+      let l = loop-at in
+      omega (arith, c .before .before .before .before .before .block .given, l .loop .inv .0 .3, l .before .before .before .before .before .before .before .before .before .before .before .before .before .before .before .before .before .before .pre .3)
+
+  -- The whole block at most.
+  most : turn-at .turn .result .input .reading .count ≤ 1024 * recordLength
+  most = let d = turn-at .turn .ensures .1 .1 .0 .0 in omega (arith, full, d .0, d .1)
+
 add-reads : tie.Need-add-reads Inv-loop μ-loop
-add-reads c = omega (arith, c .before .before .before .before .before .before .before .before .before .before .before .before .before .before .before .before .before .before .before .before .before .before .before .before .loop .inv .1)
+add-reads c = omega (arith, below c)
+
+add-bytes : tie.Need-add-bytes Inv-loop μ-loop
+add-bytes c = omega (arith, below c, most c, loop-at c .loop .inv .1 .few)
 
 loop-less : tie.Need-loop-less Inv-loop μ-loop
-loop-less c =
-    let test = c .before .before .before .before .before .before .before .before .before .before .before .before .before .before .before .before .before .before .before .before .before .before in
-    let l = test .before .before .loop in
-    omega (arith, ltb-true (l .reads) _ (and-right (l .end .more) _ (test .if1 .taken)))
+loop-less c = omega (arith, below c)
 
 loop-again : tie.Need-loop-again Inv-loop μ-loop
 loop-again c =
-    let lines = c .before in
-    let rest = lines .before .before in
-    let block = rest .before .before in
+    let lines = c .before .before .before in
+    let block = lines .before .before in
     let arrivals = block .before .before in
     let memory = arrivals .before .before in
     let state = memory .before .before in
-    let turned = state .before in
-    let test = turned .before .before .before .before .before .before .before .before .before .before in
-    let l = test .before .before .loop in
-    let t = turned .turn in
-    let b = t .last .1 .1 .1 .1 .1 .1 .0 in
-    let f = t .ensures .1 .1 .1 in
-    let before = l .inv .6 (and-left _ _ (test .if1 .taken)) in
-    let below = ltb-true (l .reads) _ (and-right (l .end .more) _ (test .if1 .taken)) in
-    let full : length b ≡ 1024 * recordLength = omega (arith, block .block .given, l .inv .0 .3, test .before .before .before .before .before .before .before .before .before .before .before .before .before .before .before .before .before .before .before .before .before .pre .3) in (
-      (omega (arith, state .state2 .given, l .inv .0 .0), omega (arith, memory .memory2 .given, l .inv .0 .1), omega (arith, arrivals .arrivals2 .given, l .inv .0 .2), omega (arith, block .block .given, l .inv .0 .3), omega (arith, rest .rest .given, l .inv .0 .4), omega (arith, lines .lines .given, l .inv .0 .5)),
-      omega arith,
-      f .0 .0,
-      f .0 .1,
-      f .1,
-      turn-reached _ (t .result) _ _ b _ (t .ensures .0) (before .0),
-      λ more. let r = turn-passed _ (t .result) _ _ b _ (t .ensures .0) (before .0) full (f .0 .0) (f .1) more in (r .0, omega (arith, r .1, before .1)),
+    let l = loop-at c .loop in
+    let t = turn-at c .turn in
+    let f = t .ensures .1 .1 in
+    let before = l .inv .1 .passed (and-left _ _ (test-at c .if1 .taken)) in
+    let after = after-turn _ (t .result) (l .end .input .held) _ _ (t .last .1 .1 .1 .1 .1 .1 .1 .0) _ (l .reads) (l .bytes) (before .0) (t .ensures .0) (t .ensures .1 .0) (full c) (f .0 .0) (f .1) in (
+      (omega (arith, state .state2 .given, l .inv .0 .0), omega (arith, memory .memory2 .given, l .inv .0 .1), omega (arith, arrivals .arrivals2 .given, l .inv .0 .2), omega (arith, block .block .given, l .inv .0 .3), omega (arith, lines .lines .given, l .inv .0 .4)),
+      record {
+        within = omega (arith, below c);
+        few = omega (arith, most c, l .inv .1 .few);
+        part = f .0 .0 .4;
+        page = f .0 .1;
+        goes-on = f .1;
+        first = λ none. absurd (omega arith);
+        reached = λ some. after .0;
+        passed = λ more. (after .1 more, omega (arith, before .1, after .2));
+      },
     )
 
 returns : tie.Need-returns Inv-loop μ-loop
 returns c =
     let l = c .before .before .loop in
-    (l .inv .5, (l .inv .4, λ more. omega (arith, l .inv .1, ltb-false (l .reads) _ (rw more at (c .if1 .left)))))
+    let s = l .inv .1 in
+    (s .reached (stopped (l .end .more) (l .reads) (c .if1 .left) (s .first)), (s .goes-on, λ more. omega (arith, s .within, ltb-false (l .reads) _ (rw more at (c .if1 .left)))))
 
 pub run-spec : {M : Type 1} → statement M
 run-spec =
@@ -135,11 +180,11 @@ run-spec =
     μ-loop
     (λ c κs. search needs) (λ c κs. search needs)
     loop-holds
-    held-after-requires
     turn-requires
     add-reads
+    add-bytes
     loop-less
     loop-again
     (λ c. search needs) (λ c. search needs) (λ c. search needs) (λ c. search needs)
-    (λ c. search needs) (λ c. search needs)
+    (λ c. search needs)
     returns)

@@ -1,15 +1,17 @@
 -- `to_take` meets its contract, by its test. Assumes nothing.
-use mathlib.Core.Path.{sym, _∙_}
-use mathlib.Core.Bool.{true≢false}
+use native.Mathlib.Omega.{arith}
 use borrow.Author.Needs.{needs}
+use Rattle.tapes.specs.Blocks.{toTake}
 use Rattle.program.proofs.to_take.Statement.{statement}
 use Rattle.program.proofs.to_take.Tie as tie
 
 returns : tie.Need-returns
-returns c = (search needs, λ going. absurd (true≢false (sym (c .if1 .taken) ∙ going)))
+unfolding toTake
+returns c = (rw (c .if1 .taken), search needs)
 
 returns-2 : tie.Need-returns-2
-returns-2 c = (search needs, λ going. search needs)
+unfolding toTake
+returns-2 c = (rw (c .if1 .left) (omega arith), search needs)
 
 pub to-take-spec : {M : Type 1} → statement M
 to-take-spec = tie.close (tie.spec returns (λ c. search needs) returns-2)
