@@ -4,3 +4,5 @@ pub mod Steps
 pub mod TapePrinted
 pub mod Example
 pub mod PagesPrinted
+pub mod LinesFixed
+pub mod OnlyPrinter

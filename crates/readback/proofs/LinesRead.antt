@@ -86,7 +86,7 @@ port-reads code i known small = record {
 }
 
 module _ (t : ℕ) (out ans : List ℕ) where
-  sum : withdrawnSum ans ≡ withdrawnOn ans 0 + withdrawnOn ans 1 + withdrawnOn ans 2 + withdrawnOn ans 3 + withdrawnOn ans 4
+  pub sum : withdrawnSum ans ≡ withdrawnOn ans 0 + withdrawnOn ans 1 + withdrawnOn ans 2 + withdrawnOn ans 3 + withdrawnOn ans 4
   unfolding withdrawnBelow
   sum = omega arith
 

@@ -82,13 +82,13 @@ module _ (m p j : ℕ) (hm : m < 32) (hp : p < 5) (hj : j < 5) (free : has m p �
 -- ---- a tape between its records
 
 -- What waits on port p.
-abbrev waiting : Tape → ℕ → Waiting
+abbrev pub waiting : Tape → ℕ → Waiting
 waiting σ p = cond (has (σ .pending) p) (some (getD (σ .records) p 0, packet (σ .arrivals) p)) none
 
 abbrev pub between : Tape → Between
 between σ = record { store = σ .store; waits = waiting σ 0 ∷ waiting σ 1 ∷ waiting σ 2 ∷ waiting σ 3 ∷ waiting σ 4 ∷ [] }
 
-waits-on : (σ : Tape) (p : ℕ) → p < 5 → waitsOn (between σ) p ≡ waiting σ p
+pub waits-on : (σ : Tape) (p : ℕ) → p < 5 → waitsOn (between σ) p ≡ waiting σ p
 waits-on σ zero h = refl
 waits-on σ (suc zero) h = refl
 waits-on σ (suc (suc zero)) h = refl
@@ -107,7 +107,7 @@ pub record Lawful (k : ℕ) (σ : Tape) : Type 0 where
 
 -- ---- the bytes of a record
 
-blank-zeros : (r : List ℕ) → length r ≡ 24 → (n i : ℕ) → i + n ≡ 24 → blankPart r i 24 ≡ true → ZeroFrom i r
+pub blank-zeros : (r : List ℕ) → length r ≡ 24 → (n i : ℕ) → i + n ≡ 24 → blankPart r i 24 ≡ true → ZeroFrom i r
 blank-zeros r l zero i e b j a c = absurd (omega arith)
 blank-zeros r l (suc n) i e b j a c =
     let both = sym (blank-first r i 24 (omega arith) (omega arith)) ∙ b in
@@ -117,7 +117,7 @@ blank-zeros r l (suc n) i e b j a c =
     go (yes m) here later = later j (omega arith) c
     go (no m) here later = let same : j ≡ i = omega arith in rw same here
 
-zeros-blank : (r : List ℕ) → length r ≡ 24 → (n i : ℕ) → i + n ≡ 24 → ZeroFrom i r → blankPart r i 24 ≡ true
+pub zeros-blank : (r : List ℕ) → length r ≡ 24 → (n i : ℕ) → i + n ≡ 24 → ZeroFrom i r → blankPart r i 24 ≡ true
 zeros-blank r l zero i e z = blank-empty r i 24 (omega arith)
 zeros-blank r l (suc n) i e z = rw (blank-first r i 24 (omega arith) (omega arith), z i (omega arith) (omega arith)) (zeros-blank r l n (suc i) (omega arith) (λ j a b. z j (omega arith) b))
 
@@ -222,7 +222,7 @@ pub record Done (k : ℕ) (σ : Tape) (r : List ℕ) (t : Taken) : Type 0 where
   pub lawful : Lawful k (t .tape)
 
 -- Five places, of which one is set.
-five-set : {A : Type 0} (f g : ℕ → A) (p : ℕ) (v : A) → p < 5 → ((j : ℕ) → j < 5 → f j ≡ cond (eqb p j) v (g j)) → f 0 ∷ f 1 ∷ f 2 ∷ f 3 ∷ f 4 ∷ [] ≡ set (g 0 ∷ g 1 ∷ g 2 ∷ g 3 ∷ g 4 ∷ []) p v
+pub five-set : {A : Type 0} (f g : ℕ → A) (p : ℕ) (v : A) → p < 5 → ((j : ℕ) → j < 5 → f j ≡ cond (eqb p j) v (g j)) → f 0 ∷ f 1 ∷ f 2 ∷ f 3 ∷ f 4 ∷ [] ≡ set (g 0 ∷ g 1 ∷ g 2 ∷ g 3 ∷ g 4 ∷ []) p v
 five-set f g zero v l h = rw (h 0 (omega arith), h 1 (omega arith), h 2 (omega arith), h 3 (omega arith), h 4 (omega arith))
 five-set f g (suc zero) v l h = rw (h 0 (omega arith), h 1 (omega arith), h 2 (omega arith), h 3 (omega arith), h 4 (omega arith))
 five-set f g (suc (suc zero)) v l h = rw (h 0 (omega arith), h 1 (omega arith), h 2 (omega arith), h 3 (omega arith), h 4 (omega arith))
@@ -242,7 +242,7 @@ module _ (k : ℕ) (σ : Tape) (r : List ℕ) (whole : length r ≡ 24) (bytes :
 
   -- ---- a control write
 
-  control-taken : byte r 0 ≡ 67 → (b : Bool) → blankPart r 3 24 ≡ b → takeRecord σ (suc k) r ≡ cond b (takeControl σ (suc k) r) (record { tape = σ; event = refused (suc k) 11 })
+  pub control-taken : byte r 0 ≡ 67 → (b : Bool) → blankPart r 3 24 ≡ b → takeRecord σ (suc k) r ≡ cond b (takeControl σ (suc k) r) (record { tape = σ; event = refused (suc k) 11 })
   unfolding takeRecord recordRefusal kindRefusal unusedRefusal
   control-taken e true f = rw (whole, e, f)
   control-taken e false f = rw (whole, e, f)
@@ -291,18 +291,18 @@ module _ (k : ℕ) (σ : Tape) (r : List ℕ) (whole : length r ≡ 24) (bytes :
 
   -- ---- an arrival
 
-  arrival-taken : byte r 0 ≡ 65 → (a b : Bool) → (blankPart r 2 4 && leb (byte r 1) 4) ≡ a → has (σ .pending) (byte r 1) ≡ b
+  pub arrival-taken : byte r 0 ≡ 65 → (a b : Bool) → (blankPart r 2 4 && leb (byte r 1) 4) ≡ a → has (σ .pending) (byte r 1) ≡ b
       → takeRecord σ (suc k) r ≡ cond a (cond b (record { tape = σ; event = refused (suc k) 12 }) (takeArrival σ (suc k) r)) (record { tape = σ; event = refused (suc k) 11 })
   unfolding takeRecord recordRefusal kindRefusal arrivalRefusal
   arrival-taken e true true f g = rw (whole, e, f, g)
   arrival-taken e true false f g = rw (whole, e, f, g)
   arrival-taken e false b f g = rw (whole, e, f)
 
-  abbrev port : ℕ
+  abbrev pub port : ℕ
   port = byte r 1
 
   -- What waits after it: on its port this packet, elsewhere what did.
-  waits-then : IsArrival r → has (σ .pending) port ≡ false → (j : ℕ) → j < 5 → waiting (takeArrival σ (suc k) r .tape) j ≡ cond (eqb port j) (some (suc k, drop 4 r)) (waiting σ j)
+  pub waits-then : IsArrival r → has (σ .pending) port ≡ false → (j : ℕ) → j < 5 → waiting (takeArrival σ (suc k) r .tape) j ≡ cond (eqb port j) (some (suc k, drop 4 r)) (waiting σ j)
   unfolding takeArrival packet
   waits-then c f j l = rw (with-port (σ .pending) port j (L .pending) (let h = c .port in omega arith) l f .1) (go (eqb port j) refl)
     where
@@ -341,7 +341,7 @@ module _ (k : ℕ) (σ : Tape) (r : List ℕ) (whole : length r ≡ 24) (bytes :
       set-at-most (x ∷ l) (suc i) v (suc p) h = set-at-most l i v p h
 
   -- Its questions: unused bytes and port, then whether the port has a packet.
-  fit : (blankPart r 2 4 && leb (byte r 1) 4) ≡ true → byte r 0 ≡ 65 → IsArrival r
+  pub fit : (blankPart r 2 4 && leb (byte r 1) 4) ≡ true → byte r 0 ≡ 65 → IsArrival r
   fit f e =
       let zeros = sym (blank-two r whole) ∙ and-left (blankPart r 2 4) (leb (byte r 1) 4) f in
       record {
@@ -350,7 +350,7 @@ module _ (k : ℕ) (σ : Tape) (r : List ℕ) (whole : length r ≡ 24) (bytes :
         unused = (eqb-true (byte r 2) 0 (and-left (eqb (byte r 2) 0) _ zeros), eqb-true (byte r 3) 0 (and-left (eqb (byte r 3) 0) true (and-right (eqb (byte r 2) 0) _ zeros)));
       }
 
-  fit-passes : IsArrival r → (blankPart r 2 4 && leb (byte r 1) 4) ≡ true
+  pub fit-passes : IsArrival r → (blankPart r 2 4 && leb (byte r 1) 4) ≡ true
   fit-passes c = rw (blank-two r whole, c .unused .0, c .unused .1, le-leb (byte r 1) 4 (c .port))
 
   arrival-done : byte r 0 ≡ 65 → Done (suc k) σ r (takeRecord σ (suc k) r)
@@ -372,7 +372,7 @@ module _ (k : ℕ) (σ : Tape) (r : List ℕ) (whole : length r ≡ 24) (bytes :
   abbrev call : TickCall
   call = record { arriving = σ .pending; bestEffort = byte r 1; arrivals = σ .arrivals; times = λ p. pos 0 }
 
-  brings : Brings (between σ) (byte r 1) call
+  pub brings : Brings (between σ) (byte r 1) call
   brings = record {
     best-effort = refl;
     ports = L .pending;
@@ -470,7 +470,7 @@ module _ (k : ℕ) (σ : Tape) (r : List ℕ) (whole : length r ≡ 24) (bytes :
       go true e = accepted-done c (eqb-true n 0 e)
       go false e = turned-away-done c n refl (eqb-false n 0 e) (tick-number (σ .store) (σ .pending) (byte r 1) (σ .arrivals) (zeros 100) (zeros 20))
 
-  tick-taken : byte r 0 ≡ 84 → (b : Bool) → blankPart r 2 24 ≡ b → takeRecord σ (suc k) r ≡ cond b (takeTick σ (suc k) r) (record { tape = σ; event = refused (suc k) 11 })
+  pub tick-taken : byte r 0 ≡ 84 → (b : Bool) → blankPart r 2 24 ≡ b → takeRecord σ (suc k) r ≡ cond b (takeTick σ (suc k) r) (record { tape = σ; event = refused (suc k) 11 })
   unfolding takeRecord recordRefusal kindRefusal unusedRefusal
   tick-taken e true f = rw (whole, e, f)
   tick-taken e false f = rw (whole, e, f)
@@ -484,7 +484,7 @@ module _ (k : ℕ) (σ : Tape) (r : List ℕ) (whole : length r ≡ 24) (bytes :
 
   -- ---- by its kind
 
-  other-taken : byte r 0 ≢ 67 → byte r 0 ≢ 65 → byte r 0 ≢ 84 → takeRecord σ (suc k) r ≡ record { tape = σ; event = refused (suc k) 10 }
+  pub other-taken : byte r 0 ≢ 67 → byte r 0 ≢ 65 → byte r 0 ≢ 84 → takeRecord σ (suc k) r ≡ record { tape = σ; event = refused (suc k) 10 }
   unfolding takeRecord recordRefusal kindRefusal
   other-taken a b c = rw (whole, ne-eqb (byte r 0) 67 a, ne-eqb (byte r 0) 65 b, ne-eqb (byte r 0) 84 c)
 

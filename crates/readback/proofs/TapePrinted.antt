@@ -94,7 +94,7 @@ walk (suc n) k σ input e L b few = go (decLt (length input) 24) (λ τ N c. wal
 
 -- ---- from the start
 
-start-lawful : Lawful 0 start
+pub start-lawful : Lawful 0 start
 unfolding start
 start-lawful = record { store = fresh-small; pending = omega arith; whole = refl; arrivals = zeros-small 100; five = refl; records = zero-at }
   where
@@ -107,7 +107,7 @@ start-lawful = record { store = fresh-small; pending = omega arith; whole = refl
     zero-at (suc (suc (suc (suc (suc p))))) = omega arith
 
 -- Bytes of the input, and none after it.
-bytes-small : (l : List ℕ) → Bytes l → Small l
+pub bytes-small : (l : List ℕ) → Bytes l → Small l
 unfolding Bytes
 bytes-small l b j = go (decLt j (length l))
   where
@@ -115,7 +115,7 @@ bytes-small l b j = go (decLt j (length l))
     go (yes h) = b j h
     go (no h) = rw (List·getD-eq-default l 0 {n = j} (omega arith)) (omega arith)
 
-begun-start : (r : Store) → length (r .state) ≡ 1804 → length (r .memory) ≡ 5120 → begun r ≡ between start
+pub begun-start : (r : Store) → length (r .state) ≡ 1804 → length (r .memory) ≡ 5120 → begun r ≡ between start
 unfolding start has
 begun-start r s m = ap (λ (o : Outcome Store). record { store = o .after; waits = replicate 5 none }) (fresh-made board8 lawful8 r s m 0)
 

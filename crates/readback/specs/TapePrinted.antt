@@ -156,3 +156,7 @@ begun r = record { store = makeFresh board8 r 0 .after; waits = replicate 5 none
 unfoldable pub TapePrinted : (List ℕ → List ℕ) → Type 0
 TapePrinted print = (r : Store) → length (r .state) ≡ 1804 → length (r .memory) ≡ 5120 → (input : List ℕ) → Bytes input → length input < 2 ^ 64
     → (ls : List (List ℕ)) × (cutFrom [] (print input) ≡ ls ++ ([] ∷ [])) × Prints 0 (begun r) input ls
+
+-- Whatever meets the claim prints what `ours` does, of every tape.
+unfoldable pub OnlyPrinter : (List ℕ → List ℕ) → Type 0
+OnlyPrinter ours = (print : List ℕ → List ℕ) → TapePrinted print → (input : List ℕ) → Bytes input → length input < 2 ^ 64 → print input ≡ ours input
