@@ -1,26 +1,27 @@
 -- The lines of a tape are fixed by what a reader finds in them: digits by the number that they make, a text by its lines. Assumes nothing.
-use Prim.Native.Nat.{ℕ, zero, suc, max, _+_, _-_, _*_, _/_, _%_, _^_, _≤_, _<_}
-use mathlib.Core.Path.{_≡_, refl, sym, ap, ap₂, subst, _∙_}
+use Prim.Native.Nat.{ℕ, zero, suc, _+_, _-_, _*_, _/_, _%_, _^_, _≤_, _<_}
+use mathlib.Core.Path.{_≡_, refl, sym, ap, ap₂, _∙_}
 use mathlib.Core.Bool.{Bool, true, false, cond}
-use mathlib.Core.Logic.{_≢_, _⊎_, inl, inr}
-use mathlib.Core.List.{List, [], _∷_, _++_, append-nil, append-assoc}
+use mathlib.Core.Logic.{_≢_, inl, inr}
+use mathlib.Core.List.{List, [], _∷_, _++_}
 use native.Mathlib.Decide.{decLt, ℕ-discrete}
 use native.Mathlib.Nat.{pow-suc, pow-le-pow-right, mul-le-mul-right}
 use native.Mathlib.Omega.{arith}
-use lib.ListN.{length, length-take, length-drop, take, drop, getD}
+use lib.ListN.{length, length-drop, take, drop}
 use lib.Seq.{append-snoc, ext-getD, getD-take, getD-drop, length-take-le}
-use lib.Dec.{eqb, ltb}
+use lib.Dec.{eqb}
 use borrow.Author.Tests.{eqb-true, lt-ltb, le-ltb}
 use Rattle.rules.proofs.Booleans.{cons-first, cons-rest, nil-cons}
 use Rattle.rules.specs.Areas.{byte}
-use Rattle.text.specs.Lines.{decimal, hex, field, recordNumber, withdrawnSum, tickText, tickLine, refusedLine}
+use Rattle.text.specs.Lines.{decimal, hex, field, tickText, tickLine, refusedLine}
 use Rattle.text.specs.Characters.{cutFrom, Digits, readFrom, Reads}
 use Rattle.text.proofs.Numbers.{length-decimal, decimal-reads}
-use Rattle.text.proofs.Characters.{length-tick-text, length-field}
+use Rattle.text.proofs.Characters.{length-tick-text}
 use Rattle.text.proofs.TickText.{port-field, count-part, all-spaces, clock-part}
 use Rattle.pages.specs.Pages.{ended}
+use Rattle.pages.proofs.Lines.{ended-one}
 use Rattle.readback.specs.TapePrinted.{RefusedLine, HexDigit, Identifier, PortField, TickLine}
-use Rattle.readback.proofs.LinesRead.{refusedText, refused-line, refused-reads, sum}
+use Rattle.readback.proofs.LinesRead.{refused-line, refused-reads, sum}
 
 -- ---- a text by its lines
 
@@ -47,14 +48,9 @@ uncut line (c ∷ cs) ls e = go (eqb c 10) refl ls (λ read ms. uncut read cs ms
     go true f (l ∷ ls) later h = rw (eqb-true c 10 f, cons-first h, append-snoc l 10 (ended ls), later [] ls (cons-rest h))
     go false f ls later h = sym (append-snoc line c cs) ∙ later (line ++ (c ∷ [])) ls h
 
-pub ended-append : (ls ms : List (List ℕ)) → ended (ls ++ ms) ≡ ended ls ++ ended ms
-unfolding ended
-ended-append [] ms = refl
-ended-append (l ∷ ls) ms = rw (ended-append ls ms) (sym (append-assoc (l ++ (10 ∷ [])) (ended ls) (ended ms)))
-
 -- ---- digits
 
--- Digits after others that make n: the number is from n on and below the next, in their place.
+-- Digits after others that make n: the number lies between n and the next number, each with as many zeros behind.
 read-within : (cs : List ℕ) (n : ℕ) → Digits cs → (n * 10 ^ length cs ≤ readFrom n cs) × (readFrom n cs < suc n * 10 ^ length cs)
 unfolding Digits readFrom
 read-within [] n d = (omega arith, omega arith)
@@ -113,10 +109,9 @@ refused-same R S =
     R .parts ∙ ap₂ (λ (n r : List ℕ). 82 ∷ 32 ∷ n ++ (32 ∷ r)) number refusal ∙ sym (S .parts)
 
 pub refused-ended : {k q : ℕ} {l : List ℕ} → RefusedLine k q l → k < 10 ^ 20 → refusedLine k q ≡ ended (l ∷ [])
-unfolding ended
 refused-ended {k} {q} {l} R few =
     let small : q < 100 = rw (R .two) at (reads-below (R .refusal-reads)) in
-    rw (refused-same R (refused-reads k q few small), append-nil (refusedText k q ++ (10 ∷ []))) (refused-line k q)
+    rw (ended-one l, refused-same R (refused-reads k q few small)) (refused-line k q)
 
 -- ---- T lines
 
@@ -184,5 +179,5 @@ module _ {t : ℕ} {out ans l : List ℕ} (T : TickLine t out ans l) where
       go i h (yes a) (yes b) (no c) (no d) = part-byte l ours 3 (6 + 4 * ((i - 6) / 4)) i (port-same ((i - 6) / 4) (omega arith)) (omega arith) (omega arith)
 
   pub tick-ended : tickLine t out ans ≡ ended (l ∷ [])
-  unfolding tickLine ended
-  tick-ended = rw (tick-fixed, append-nil (tickText t out ans ++ (10 ∷ [])))
+  unfolding tickLine
+  tick-ended = rw (ended-one l, tick-fixed)

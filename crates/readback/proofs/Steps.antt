@@ -298,7 +298,7 @@ module _ (k : ℕ) (σ : Tape) (r : List ℕ) (whole : length r ≡ 24) (bytes :
   arrival-taken e true false f g = rw (whole, e, f, g)
   arrival-taken e false b f g = rw (whole, e, f)
 
-  abbrev pub port : ℕ
+  abbrev port : ℕ
   port = byte r 1
 
   -- What waits after it: on its port this packet, elsewhere what did.
