@@ -1,20 +1,18 @@
 -- Document 01's example: what the router replies to its six calls is computed at the router that never turns over, by demand 3; the rest by computation, record after record. Assumes nothing.
-use Prim.Native.Nat.{ℕ, suc, _+_, _<_}
-use mathlib.Core.Path.{_≡_, refl, sym, ap, _∙_}
-use mathlib.Core.Bool.{Bool, true, false, cond}
+use Prim.Native.Nat.{ℕ, suc, _+_}
+use mathlib.Core.Path.{_≡_, refl, ap}
 use mathlib.Core.List.{List, [], _∷_, _++_, flatten}
 use native.Mathlib.Omega.{arith}
 use lib.ListN.{length, replicate}
 use lib.IntN.{pos}
-use Rattle.rules.specs.Areas.{Store, Reply, Outcome, numberReply, has, portsBelow}
+use Rattle.rules.specs.Areas.{Store, Reply, numberReply, has, portsBelow}
 use Rattle.rules.specs.Board.{clock, board8}
-use Rattle.rules.specs.Questions.{fresh, controlWrite, tick as tickEntry}
-use Rattle.rules.specs.Whole.{TickCall, start as startWhole}
-use Rattle.rules.specs.Calls.{Call, control, tick, afterAll, replies, wholeStep}
+use Rattle.rules.specs.Questions.{fresh}
+use Rattle.rules.specs.Calls.{Call, control, tick, afterAll, replies}
 use Rattle.rules.specs.Demand3.{byteStep}
 use Rattle.rules.proofs.Booleans.{cons-first, cons-rest}
 use Rattle.cases.proofs.Computing.{computing}
-use Rattle.cases.proofs.Proper.{isProper, proper}
+use Rattle.cases.proofs.Proper.{proper}
 use Rattle.cases.proofs.Reached.{after-calls}
 use Rattle.records.specs.Records as Records
 use Rattle.records.specs.Records.{recordRefusal, kindRefusal, unusedRefusal, blank}

@@ -1,17 +1,14 @@
 -- The lines of a tape read back: a number by its digits, a tick's fields by the places in which they stand. Assumes nothing.
 use Prim.Native.Nat.{ℕ, zero, suc, max, _+_, _*_, _/_, _%_, _^_, _≤_, _<_}
-use mathlib.Core.Path.{_≡_, refl, sym, ap, subst, _∙_}
-use mathlib.Core.Bool.{cond}
+use mathlib.Core.Path.{_≡_, refl, subst}
 use mathlib.Core.Logic.{_≢_, inl, inr}
-use mathlib.Core.List.{List, [], _∷_, _++_, append-assoc}
+use mathlib.Core.List.{List, [], _∷_, _++_}
 use native.Mathlib.Decide.{decLt, decLe}
 use native.Mathlib.Nat.{pow-le-pow-right}
 use native.Mathlib.Omega.{arith}
-use lib.ListN.{length}
-use lib.Dec.{eqb}
 use borrow.Author.Tests.{lt-ltb, le-ltb}
 use Rattle.rules.specs.Areas.{byte}
-use Rattle.text.specs.Lines.{decimal, digitsOf, recordNumber, hex, field, portField, withdrawn, withdrawnBelow, withdrawnSum, refusedLine, tickText}
+use Rattle.text.specs.Lines.{decimal, digitsOf, recordNumber, hex, field, withdrawnBelow, withdrawnSum, refusedLine, tickText}
 use Rattle.text.specs.Characters.{NoFeed, Reads}
 use Rattle.text.proofs.Numbers.{length-decimal, decimal-reads, digits-short, digits-hold, first-no-zero}
 use Rattle.text.proofs.Characters.{length-tick-text, no-feed-append, no-feed-decimal}

@@ -2,14 +2,14 @@
 use Prim.Native.Nat.{ℕ, zero, suc, _+_}
 use mathlib.Core.Path.{_≡_, refl, sym, ap, subst, _∙_}
 use mathlib.Core.Bool.{Bool, true, false, cond}
-use mathlib.Core.List.{List, [], _∷_, _++_, append-nil, append-assoc, map}
+use mathlib.Core.List.{List, [], _∷_, _++_, append-nil, map}
 use lib.ListN.{getD}
 use lib.Dec.{leb, eqb}
 use Rattle.rules.specs.Areas.{byte, portsBelow, perPort}
 use Rattle.events.specs.Tape.{Event, nothing, refused, ticked, eventsOf}
 use Rattle.text.specs.Lines.{refusedLine, tickText, tickLine}
 use Rattle.text.specs.Characters.{cutFrom}
-use Rattle.pages.specs.Pages.{ticksOf, textOf, pagesOf, ended, printedPages}
+use Rattle.pages.specs.Pages.{ticksOf, textOf, printedPages}
 use Rattle.pages.specs.Claims.{PagesRight}
 use Rattle.pages.proofs.Withdrawn.{tape-bounded}
 use Rattle.pages.proofs.Reading.{pages-right}

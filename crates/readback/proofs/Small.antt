@@ -1,20 +1,20 @@
 -- Bytes stay bytes: whatever calls of bytes do to a router of bytes, the memory and the state hold numbers below 256, but for the two places of the free count, of which this doesn't speak. Assumes nothing.
 use Prim.Native.Nat.{ℕ, zero, suc, _+_, _-_, _*_, _/_, _%_, _^_, _≤_, _<_}
-use mathlib.Core.Path.{_≡_, refl, sym, ap, subst, _∙_}
+use mathlib.Core.Path.{_≡_, refl, sym, subst, _∙_}
 use mathlib.Core.Bool.{Bool, true, false, cond, not, _&&_}
 use mathlib.Core.Logic.{_≢_}
-use mathlib.Core.List.{List, [], _∷_, _++_}
+use mathlib.Core.List.{List, [], _∷_}
 use native.Mathlib.Nat.{mod-lt}
 use native.Mathlib.Omega.{arith}
 use lib.Pow.{pow-pos}
-use lib.ListN.{length, take, drop, set, replicate}
-use lib.Seq.{sets, getD-set-other, getD-take, getD-drop}
+use lib.ListN.{take, drop, set, replicate}
+use lib.Seq.{sets, getD-set-other, getD-drop}
 use lib.Dec.{eqb, leb, ltb}
-use borrow.Author.Tests.{leb-true, ltb-true}
+use borrow.Author.Tests.{leb-true}
 use Rattle.rules.specs.Clock.{plus}
-use Rattle.rules.specs.Areas.{Store, Bytes, byte, bits, digits, value, packet, stamp, payload, packed, has, without, Grant, nobody, bestEffort, onTime, early}
-use Rattle.rules.specs.Board.{Field, Kind, Clock, Horizon, Latch, Free, Idle, Time, Deadline, Mask, Outgoing, Delay, Routes, clock, free, table8, board8}
-use Rattle.rules.specs.Questions.{fresh, written, commitHorizon, controlWrite, tick, tickRefusal, controlRefusal}
+use Rattle.rules.specs.Areas.{Store, Bytes, byte, bits, packet, stamp, has, without, Grant, nobody, bestEffort, onTime, early}
+use Rattle.rules.specs.Board.{Field, Horizon, Latch, Idle, Time, Deadline, Mask, Outgoing, Delay, Routes, clock, free, table8, board8}
+use Rattle.rules.specs.Questions.{fresh, written, commitHorizon, tick}
 use Rattle.rules.specs.Tick as Tick
 use Rattle.rules.proofs.FieldBytes.{get-one, put-one, put-two, stamp-one, packed-one}
 use Rattle.rules.proofs.Booleans.{and-left}

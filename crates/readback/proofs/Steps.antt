@@ -1,18 +1,18 @@
 -- Each record of a tape does what `Step` says: by its kind and questions, and for a tick by what the router's own reply has in each place. Assumes nothing.
-use Prim.Native.Nat.{ℕ, zero, suc, _+_, _-_, _*_, _/_, _%_, _^_, _≤_, _<_}
+use Prim.Native.Nat.{ℕ, zero, suc, _+_, _*_, _^_, _≤_, _<_}
 use mathlib.Core.Path.{_≡_, refl, sym, ap, subst, _∙_}
 use mathlib.Core.Bool.{Bool, true, false, cond, not, _&&_, _||_, Bool·beq, true≢false}
 use mathlib.Core.Logic.{_≢_, _⊎_, inl, inr}
 use mathlib.Core.List.{List, [], _∷_, _++_, append-nil, append-assoc}
-use mathlib.Core.Option.{Option, none, some}
-use native.Mathlib.Decide.{decLe, decLt}
+use mathlib.Core.Option.{none, some}
+use native.Mathlib.Decide.{decLt}
 use native.Mathlib.Omega.{arith}
-use lib.ListN.{length, length-set, length-drop, getD, take, drop, set, replicate}
+use lib.ListN.{length, length-set, length-drop, getD, drop, set, replicate}
 use lib.Seq.{sets, length-sets, getD-set-same, getD-set-other, getD-drop}
 use lib.Dec.{leb, ltb, eqb}
 use lib.IntN.{pos}
-use borrow.Author.Tests.{eqb-true, eqb-false, eq-eqb, ne-eqb, le-leb, lt-leb, leb-true, ltb-true}
-use Rattle.rules.specs.Areas.{Store, Outcome, Bytes, byte, packet, has, grantCode, Grant, nobody, bestEffort, onTime, early, portsBelow, perPort, asked, arrivalQuestions, arrivalAnswer, answersArea}
+use borrow.Author.Tests.{eqb-true, eqb-false, ne-eqb, le-leb, lt-leb, leb-true, ltb-true}
+use Rattle.rules.specs.Areas.{Store, Outcome, byte, packet, has, grantCode, Grant, nobody, bestEffort, onTime, early, portsBelow, perPort, asked, arrivalQuestions, arrivalAnswer}
 use Rattle.rules.specs.Order.{all}
 use Rattle.rules.specs.Board.{clock, board8}
 use Rattle.rules.specs.Questions.{controlWrite, controlRefusal, tick as tickEntry, tickRefusal, written}
@@ -20,21 +20,21 @@ use Rattle.rules.specs.Tick as Tick
 use Rattle.rules.specs.Whole.{TickCall}
 use Rattle.rules.specs.Calls.{control, tick}
 use Rattle.rules.specs.Demand3.{byteStep}
-use Rattle.rules.proofs.Booleans.{and-left, and-right, not-false, beq-eq, some-inj, none-some}
+use Rattle.rules.proofs.Booleans.{and-left, and-right, beq-eq, some-inj, none-some}
 use Rattle.rules.proofs.IndexLaws.{all-at}
-use Rattle.rules.proofs.AreaLaws.{packet-other, part-same, part-other}
+use Rattle.rules.proofs.AreaLaws.{packet-other, part-same}
 use Rattle.rules.proofs.ByteLaws.{answer-at}
 use Rattle.rules.proofs.FieldBytes.{packet-byte}
 use Rattle.rules.proofs.Theorem.{layout}
-use Rattle.records.specs.Records.{blank, blankPart, recordRefusal, kindRefusal, unusedRefusal, arrivalRefusal}
+use Rattle.records.specs.Records.{blankPart, recordRefusal, kindRefusal, unusedRefusal, arrivalRefusal}
 use Rattle.records.proofs.Refusals.{blank-empty, blank-first}
-use Rattle.events.specs.Tape.{Tape, Event, nothing, refused, ticked, Taken, afterControl, afterTick, takeControl, takeArrival, takeTick, takeRecord}
+use Rattle.events.specs.Tape.{Tape, nothing, refused, ticked, Taken, afterControl, afterTick, takeControl, takeArrival, takeTick, takeRecord}
 use Rattle.text.specs.Characters.{NoFeed, cutFrom}
-use Rattle.text.specs.Lines.{tickText, tickLine, refusedLine, withdrawnSum}
+use Rattle.text.specs.Lines.{tickText, tickLine, refusedLine}
 use Rattle.text.proofs.Characters.{cut-line, no-feed-tick-text}
 use Rattle.pages.proofs.Withdrawn.{tick-at-most-1280}
 use Rattle.tapes.specs.Printed.{refusedArrival, tickedLines, eventLines}
-use Rattle.readback.specs.TapePrinted.{RefusedLine, TickLine, Waiting, Between, waitsOn, IsControl, IsArrival, IsTick, ZeroFrom, Unfit, no-kind, no-control, no-arrival, no-tick, occupied, Answered, Brings, Refusals, no-port, taken, Step, unfit, kept, turned-away}
+use Rattle.readback.specs.TapePrinted.{TickLine, Waiting, Between, waitsOn, IsControl, IsArrival, IsTick, ZeroFrom, Unfit, no-kind, no-control, no-arrival, no-tick, occupied, Brings, Refusals, no-port, taken, Step, unfit, kept, turned-away}
 use Rattle.readback.specs.TapePrinted as Said
 use Rattle.readback.proofs.LinesRead.{refusedText, refused-line, no-feed-refused, refused-reads, tick-reads}
 use Rattle.readback.proofs.Small.{Small, SmallStore, zeros-small, sets-small, part-small, written-small, arrived-small, ticked-small}

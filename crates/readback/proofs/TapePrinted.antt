@@ -1,22 +1,20 @@
 -- `tape` prints what the input's bytes say: record after record, each by `record-done`, and a rest by its length. Assumes nothing.
-use Prim.Native.Nat.{ℕ, zero, suc, _+_, _-_, _*_, _/_, _^_, _≤_, _<_}
+use Prim.Native.Nat.{ℕ, zero, suc, _+_, _^_, _≤_, _<_}
 use mathlib.Core.Path.{_≡_, refl, sym, ap, subst, _∙_}
 use mathlib.Core.Option.{none}
 use mathlib.Core.List.{List, [], _∷_, _++_, append-nil, append-assoc}
 use native.Mathlib.Decide.{decLt}
-use native.Mathlib.Nat.{add-zero}
 use native.Mathlib.Omega.{arith}
-use lib.ListN.{length, length-take, length-drop, take, drop, take-append-drop, replicate, List·getD-eq-default}
+use lib.ListN.{length, length-drop, take, drop, take-append-drop, replicate, List·getD-eq-default}
 use lib.Seq.{take-all, length-take-le, getD-drop}
 use borrow.Author.Tests.{ne-eqb}
 use Rattle.rules.specs.Areas.{Store, Outcome, Bytes, byte, has}
 use Rattle.rules.specs.Board.{board8}
-use Rattle.rules.specs.Questions.{fresh, makeFresh}
 use Rattle.rules.proofs.Agreement.{fresh-made}
 use Rattle.rules.proofs.Board8Laws.{lawful8}
-use Rattle.records.specs.Records.{recordLength, recordsIn, recordAt, recordRefusal}
-use Rattle.events.specs.Tape.{Tape, start, Event, refused, takeRecord, Passed, after, eventsOf}
-use Rattle.events.proofs.Joined.{then, after-joined}
+use Rattle.records.specs.Records.{recordsIn, recordRefusal}
+use Rattle.events.specs.Tape.{Tape, start, Event, takeRecord, after, eventsOf}
+use Rattle.events.proofs.Joined.{after-joined}
 use Rattle.text.specs.Characters.{cutFrom}
 use Rattle.text.specs.Lines.{refusedLine}
 use Rattle.tapes.specs.declared.printing.Style.the-variants.{Lines}

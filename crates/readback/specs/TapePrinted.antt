@@ -1,12 +1,12 @@
 -- What a reader finds in what `tape` prints, from the bytes of the input (document 01, "Tape program" and "Per tape record"): over the router's own calls, and in no word of the definitions that print. Assumes nothing.
 use Prim.Native.Nat.{ℕ, suc, _+_, _*_, _^_, _≤_, _<_}
 use mathlib.Core.Path.{_≡_}
-use mathlib.Core.Bool.{Bool, true, false}
+use mathlib.Core.Bool.{true, false}
 use mathlib.Core.Logic.{_≢_, _⊎_}
 use mathlib.Core.List.{List, [], _∷_, _++_}
 use mathlib.Core.Option.{Option, none, some}
 use lib.ListN.{length, getD, take, drop, set, replicate}
-use Rattle.rules.specs.Areas.{Store, Bytes, Outcome, byte, has}
+use Rattle.rules.specs.Areas.{Store, Bytes, byte, has}
 use Rattle.rules.specs.Board.{board8}
 use Rattle.rules.specs.Questions.{makeFresh}
 use Rattle.rules.specs.Whole.{TickCall}

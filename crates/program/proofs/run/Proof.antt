@@ -14,7 +14,6 @@ use Rattle.records.specs.Records.{recordLength}
 use Rattle.pages.specs.Values.{Unfilled}
 use Rattle.tapes.specs.declared.printing.Style.{Style}
 use Rattle.tapes.specs.Blocks.{Place, begin, turned, withEnd, Between, unread, toTake, Turn, turn, Reached}
-use Rattle.tapes.specs.Values.{placeOf}
 use Rattle.tapes.proofs.Blocks.{Passed, passed-none, passed-on, reached-then}
 use Rattle.program.specs.declared.Held.{Held}
 use Rattle.program.specs.declared.TurnEnd.{TurnEnd}
