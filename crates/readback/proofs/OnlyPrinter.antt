@@ -1,12 +1,12 @@
 -- No other printer meets the claim of `TapePrinted`: each step that it allows is the one that ours takes, since a tick's reply is fixed by what waits, and its lines are fixed by what is read in them. Assumes nothing.
 use Prim.Native.Nat.{ℕ, zero, suc, _+_, _^_, _≤_, _<_}
 use mathlib.Core.Path.{_≡_, refl, sym, ap, ap₂, subst, _∙_}
-use mathlib.Core.Bool.{Bool, true, false, cond, true≢false}
+use mathlib.Core.Bool.{Bool, true, false, true≢false}
 use mathlib.Core.Logic.{_≢_}
 use mathlib.Core.List.{List, [], _∷_, _++_, append-nil, flatten}
 use mathlib.Core.Option.{none, some}
 use native.Mathlib.Omega.{arith}
-use lib.ListN.{length, length-append, getD, drop, set, replicate, length-replicate}
+use lib.ListN.{length, length-append, drop, set, replicate, length-replicate}
 use lib.Seq.{ext-getD, take-at, getD-append-add}
 use lib.Dec.{ltb}
 use borrow.Author.Tests.{ne-eqb, le-leb, lt-leb, ltb-true}
@@ -18,7 +18,7 @@ use Rattle.rules.specs.Tick as Tick
 use Rattle.rules.specs.Whole.{TickCall}
 use Rattle.rules.specs.Calls.{control, tick}
 use Rattle.rules.specs.Demand3.{byteStep}
-use Rattle.rules.proofs.Booleans.{none-some, some-inj, nil-cons}
+use Rattle.rules.proofs.Booleans.{nil-cons}
 use Rattle.rules.proofs.IndexLaws.{all-at}
 use Rattle.rules.proofs.OrderLaws.{fails}
 use Rattle.rules.proofs.AreaLaws.{length-packet, portsBelow-same}
@@ -38,7 +38,7 @@ use Rattle.readback.specs.TapePrinted.{RefusedLine, TickLine, Waiting, B
 use Rattle.readback.specs.TapePrinted as Said
 use Rattle.readback.specs.Example.{exampleTape, exampleLines, PrintsTheExample}
 use Rattle.readback.proofs.Small.{Small, part-small}
-use Rattle.readback.proofs.Steps.{waiting, between, waits-on, Lawful, blank-zeros, zeros-blank, five-set, control-taken, arrival-taken, tick-taken, other-taken, waits-then, fit, fit-passes, brings, record-done}
+use Rattle.readback.proofs.Steps.{between, waits-on, waits-none, waits-some, Lawful, blank-zeros, zeros-blank, arrival-fit, fit-passes, control-taken, arrival-taken, tick-taken, other-taken, kept-between, brings, record-done}
 use Rattle.readback.proofs.TapePrinted.{one-record, start-lawful, bytes-small, begun-start}
 use Rattle.readback.proofs.Example.{example-printed}
 use Rattle.readback.proofs.LinesFixed.{uncut, refused-ended, tick-ended}
@@ -117,20 +117,12 @@ abbrev Ours : Taken → List (List ℕ) → Between → Type 0
 Ours t ls τ = (eventLines (t .event) ≡ ended ls) × (between (t .tape) ≡ τ)
 
 module _ (k : ℕ) (σ : Tape) (r : List ℕ) (whole : length r ≡ 24) (bytes : Small r) (L : Lawful k σ) (few : suc k < 10 ^ 20) where
-  -- Which record waits on a port.
-  record-waits : (p : ℕ) → p < 5 → (n : ℕ) (x : List ℕ) → waitsOn (between σ) p ≡ some (n, x) → n ≡ getD (σ .records) p 0
-  record-waits p h n x e = go (getD (σ .records) p 0, packet (σ .arrivals) p) (has (σ .pending) p) (sym (waits-on σ p h) ∙ e)
-    where
-      go : (y : ℕ × List ℕ) (t : Bool) → cond t (some y) none ≡ some (n, x) → n ≡ y .0
-      go y true f = sym (ap (λ (z : ℕ × List ℕ). z .0) (some-inj f))
-      go y false f = none-some f
-
   unfit-taken : (n : ℕ) → Unfit (between σ) r n → takeRecord σ (suc k) r ≡ record { tape = σ; event = refused (suc k) n }
-  unfit-taken n (no-kind e a b c) = rw e (other-taken k σ r whole bytes L few a b c)
-  unfit-taken n (no-control e c f) = rw e (control-taken k σ r whole bytes L few c false (fails _ (λ t. f (record { kind = c; unused = blank-zeros r whole 21 3 refl t }))))
-  unfit-taken n (no-arrival e c f) = rw e (arrival-taken k σ r whole bytes L few c false (has (σ .pending) (byte r 1)) (fails _ (λ t. f (fit k σ r whole bytes L few t c))) refl)
-  unfit-taken n (no-tick e c f) = rw e (tick-taken k σ r whole bytes L few c false (fails _ (λ t. f (record { kind = c; unused = blank-zeros r whole 22 2 refl t }))))
-  unfit-taken n (occupied e c f) = rw e (arrival-taken k σ r whole bytes L few (c .kind) true true (fit-passes k σ r whole bytes L few c) (go (has (σ .pending) (byte r 1)) refl))
+  unfit-taken n (no-kind e a b c) = rw e (other-taken k σ r whole a b c)
+  unfit-taken n (no-control e c f) = rw e (control-taken k σ r whole c false (fails _ (λ t. f (record { kind = c; unused = blank-zeros r whole 21 3 refl t }))))
+  unfit-taken n (no-arrival e c f) = rw e (arrival-taken k σ r whole c false (has (σ .pending) (byte r 1)) (fails _ (λ t. f (arrival-fit r whole c t))) refl)
+  unfit-taken n (no-tick e c f) = rw e (tick-taken k σ r whole c false (fails _ (λ t. f (record { kind = c; unused = blank-zeros r whole 22 2 refl t }))))
+  unfit-taken n (occupied e c f) = rw e (arrival-taken k σ r whole (c .kind) true true (fit-passes r whole c) (go (has (σ .pending) (byte r 1)) refl))
     where
       go : (t : Bool) → has (σ .pending) (byte r 1) ≡ t → t ≡ true
       go true g = refl
@@ -147,7 +139,7 @@ module _ (k : ℕ) (σ : Tape) (r : List ℕ) (whole : length r ≡ 24) (bytes :
   refusals-ours Said.no-port h = refl
   refusals-ours {ans} (Said.taken {p = p} {ls = ls} a R) h = rw (lt-leb 6 (byte ans (5 + p)) a, append-nil) (refusals-ours R (omega arith))
   refusals-ours {ans} (Said.refused {p = p} {ls = ls} n x l w a N R) h =
-      let e = record-waits p h n x w in
+      let e = sym (ap (λ (z : ℕ × List ℕ). z .0) (waits-some σ p h (n, x) w .1)) in
       rw (le-leb 6 (byte ans (5 + p)) (a .0), ended-append ls (l ∷ []), ← refused-ended N (omega (arith, L .records p)), e, refusals-ours R (omega arith))
 
   -- A tick is that of any call that brings what waits.
@@ -155,7 +147,7 @@ module _ (k : ℕ) (σ : Tape) (r : List ℕ) (whole : length r ≡ 24) (bytes :
       → takeRecord σ (suc k) r ≡ afterTick σ (suc k) (byteStep board8 (σ .store) (tick c out ans))
   unfolding byteStep
   tick-brought t c B out ans lo la =
-      tick-taken k σ r whole bytes L few (t .kind) true (zeros-blank r whole 22 2 refl (t .unused)) ∙ sym (tick-same σ (suc k) r out ans lo la)
+      tick-taken k σ r whole (t .kind) true (zeros-blank r whole 22 2 refl (t .unused)) ∙ sym (tick-same σ (suc k) r out ans lo la)
       ∙ ap (afterTick σ (suc k)) (call-brought (brings k σ r whole bytes L few) B (σ .store) out ans)
 
   ticked-ours : (o : Outcome Store) → o .reply .number ≡ 0 → {before : List (List ℕ)} {l : List ℕ} {τ : Between} → Refusals (between σ) (o .reply .answers) 5 before
@@ -171,17 +163,15 @@ module _ (k : ℕ) (σ : Tape) (r : List ℕ) (whole : length r ≡ 24) (bytes :
 
   kept-ours : IsArrival r → has (σ .pending) (byte r 1) ≡ false → {τ : Between} → τ ≡ record { store = σ .store; waits = set (between σ .waits) (byte r 1) (some (suc k, drop 4 r)) } → Ours (takeArrival σ (suc k) r) [] τ
   unfolding takeArrival eventLines ended
-  kept-ours c f s =
-      let h = c .port in
-      (refl, ap (λ (w : List Waiting). record { store = σ .store; waits = w }) (five-set (waiting (takeArrival σ (suc k) r .tape)) (waiting σ) (byte r 1) (some (suc k, drop 4 r)) (omega arith) (waits-then k σ r whole bytes L few c f)) ∙ sym s)
+  kept-ours c f s = (refl, kept-between k σ r whole bytes L few c f ∙ sym s)
 
   step-ours : {ls : List (List ℕ)} {τ : Between} → Step (suc k) (between σ) r ls τ → Ours (takeRecord σ (suc k) r) ls τ
   unfolding eventLines takeControl byteStep
   step-ours (Said.unfit n l u R e s) = rw (unfit-taken n u, e) (refused-ended R few, sym s)
-  step-ours (Said.written c (a, s)) = rw (control-taken k σ r whole bytes L few (c .kind) true (zeros-blank r whole 21 3 refl (c .unused))) (control-ours (byteStep board8 (σ .store) (control (byte r 1) (byte r 2))) a s)
+  step-ours (Said.written c (a, s)) = rw (control-taken k σ r whole (c .kind) true (zeros-blank r whole 21 3 refl (c .unused))) (control-ours (byteStep board8 (σ .store) (control (byte r 1) (byte r 2))) a s)
   step-ours (Said.kept c w e s) =
-      let free = brings k σ r whole bytes L few .none-else (byte r 1) (let h = c .port in omega arith) w in
-      rw (arrival-taken k σ r whole bytes L few (c .kind) true false (fit-passes k σ r whole bytes L few c) free, e) (kept-ours c free s)
+      let free = waits-none σ (byte r 1) (let h = c .port in omega arith) w in
+      rw (arrival-taken k σ r whole (c .kind) true false (fit-passes r whole c) free, e) (kept-ours c free s)
   step-ours (Said.ticked t c out ans B lo la before l (n, R, T, s) e) = rw (tick-brought t c B out ans lo la, e) (ticked-ours (byteStep board8 (σ .store) (tick c out ans)) n R T s)
   step-ours (Said.turned-away t c out ans B lo la l (n, R, s) e) = rw (tick-brought t c B out ans lo la, e) (turned-away-ours (byteStep board8 (σ .store) (tick c out ans)) n R s)
 

@@ -96,6 +96,21 @@ waits-on σ (suc (suc (suc zero))) h = refl
 waits-on σ (suc (suc (suc (suc zero)))) h = refl
 waits-on σ (suc (suc (suc (suc (suc p))))) h = absurd (omega arith)
 
+-- Nothing waits on a port that the mask has not; and on any other its packet, under its record.
+pub waits-none : (σ : Tape) (p : ℕ) → p < 5 → waitsOn (between σ) p ≡ none → has (σ .pending) p ≡ false
+waits-none σ p h e = go (getD (σ .records) p 0, packet (σ .arrivals) p) (has (σ .pending) p) (sym (waits-on σ p h) ∙ e)
+  where
+    go : (x : ℕ × List ℕ) (t : Bool) → cond t (some x) none ≡ none → t ≡ false
+    go x true f = none-some (sym f)
+    go x false f = refl
+
+pub waits-some : (σ : Tape) (p : ℕ) → p < 5 → (y : ℕ × List ℕ) → waitsOn (between σ) p ≡ some y → (has (σ .pending) p ≡ true) × ((getD (σ .records) p 0, packet (σ .arrivals) p) ≡ y)
+waits-some σ p h y e = go (getD (σ .records) p 0, packet (σ .arrivals) p) (has (σ .pending) p) (sym (waits-on σ p h) ∙ e)
+  where
+    go : (x : ℕ × List ℕ) (t : Bool) → cond t (some x) none ≡ some y → (t ≡ true) × (x ≡ y)
+    go x true f = (refl, some-inj f)
+    go x false f = none-some f
+
 -- After k records: arrivals of at most five ports, each under one of these records, in an area of bytes; and a router of bytes.
 pub record Lawful (k : ℕ) (σ : Tape) : Type 0 where
   pub store : SmallStore (σ .store)
@@ -124,6 +139,19 @@ zeros-blank r l (suc n) i e z = rw (blank-first r i 24 (omega arith) (omega arit
 -- The two unused bytes of an arrival.
 blank-two : (r : List ℕ) → length r ≡ 24 → blankPart r 2 4 ≡ (eqb (byte r 2) 0 && (eqb (byte r 3) 0 && true))
 blank-two r l = blank-first r 2 4 (omega arith) (omega arith) ∙ ap (λ (b : Bool). eqb (byte r 2) 0 && b) (blank-first r 3 4 (omega arith) (omega arith) ∙ ap (λ (b : Bool). eqb (byte r 3) 0 && b) (blank-empty r 4 4 (omega arith)))
+
+-- An arrival passes question 11 just if its port is one of the five and those bytes are zero.
+pub arrival-fit : (r : List ℕ) → length r ≡ 24 → byte r 0 ≡ 65 → (blankPart r 2 4 && leb (byte r 1) 4) ≡ true → IsArrival r
+arrival-fit r l e f =
+    let zeros = sym (blank-two r l) ∙ and-left (blankPart r 2 4) (leb (byte r 1) 4) f in
+    record {
+      kind = e;
+      port = leb-true (byte r 1) 4 (and-right (blankPart r 2 4) (leb (byte r 1) 4) f);
+      unused = (eqb-true (byte r 2) 0 (and-left (eqb (byte r 2) 0) _ zeros), eqb-true (byte r 3) 0 (and-left (eqb (byte r 3) 0) true (and-right (eqb (byte r 2) 0) _ zeros)));
+    }
+
+pub fit-passes : (r : List ℕ) → length r ≡ 24 → IsArrival r → (blankPart r 2 4 && leb (byte r 1) 4) ≡ true
+fit-passes r l c = rw (blank-two r l, c .unused .0, c .unused .1, le-leb (byte r 1) 4 (c .port))
 
 -- ---- numbers of two digits
 
@@ -222,13 +250,36 @@ pub record Done (k : ℕ) (σ : Tape) (r : List ℕ) (t : Taken) : Type 0 where
   pub lawful : Lawful k (t .tape)
 
 -- Five places, of which one is set.
-pub five-set : {A : Type 0} (f g : ℕ → A) (p : ℕ) (v : A) → p < 5 → ((j : ℕ) → j < 5 → f j ≡ cond (eqb p j) v (g j)) → f 0 ∷ f 1 ∷ f 2 ∷ f 3 ∷ f 4 ∷ [] ≡ set (g 0 ∷ g 1 ∷ g 2 ∷ g 3 ∷ g 4 ∷ []) p v
+five-set : {A : Type 0} (f g : ℕ → A) (p : ℕ) (v : A) → p < 5 → ((j : ℕ) → j < 5 → f j ≡ cond (eqb p j) v (g j)) → f 0 ∷ f 1 ∷ f 2 ∷ f 3 ∷ f 4 ∷ [] ≡ set (g 0 ∷ g 1 ∷ g 2 ∷ g 3 ∷ g 4 ∷ []) p v
 five-set f g zero v l h = rw (h 0 (omega arith), h 1 (omega arith), h 2 (omega arith), h 3 (omega arith), h 4 (omega arith))
 five-set f g (suc zero) v l h = rw (h 0 (omega arith), h 1 (omega arith), h 2 (omega arith), h 3 (omega arith), h 4 (omega arith))
 five-set f g (suc (suc zero)) v l h = rw (h 0 (omega arith), h 1 (omega arith), h 2 (omega arith), h 3 (omega arith), h 4 (omega arith))
 five-set f g (suc (suc (suc zero))) v l h = rw (h 0 (omega arith), h 1 (omega arith), h 2 (omega arith), h 3 (omega arith), h 4 (omega arith))
 five-set f g (suc (suc (suc (suc zero)))) v l h = rw (h 0 (omega arith), h 1 (omega arith), h 2 (omega arith), h 3 (omega arith), h 4 (omega arith))
 five-set f g (suc (suc (suc (suc (suc p))))) v l h = absurd (omega arith)
+
+-- What taking a whole record comes to, by its kind and the answers to its questions.
+module _ (k : ℕ) (σ : Tape) (r : List ℕ) (whole : length r ≡ 24) where
+  pub control-taken : byte r 0 ≡ 67 → (b : Bool) → blankPart r 3 24 ≡ b → takeRecord σ (suc k) r ≡ cond b (takeControl σ (suc k) r) (record { tape = σ; event = refused (suc k) 11 })
+  unfolding takeRecord recordRefusal kindRefusal unusedRefusal
+  control-taken e true f = rw (whole, e, f)
+  control-taken e false f = rw (whole, e, f)
+
+  pub arrival-taken : byte r 0 ≡ 65 → (a b : Bool) → (blankPart r 2 4 && leb (byte r 1) 4) ≡ a → has (σ .pending) (byte r 1) ≡ b
+      → takeRecord σ (suc k) r ≡ cond a (cond b (record { tape = σ; event = refused (suc k) 12 }) (takeArrival σ (suc k) r)) (record { tape = σ; event = refused (suc k) 11 })
+  unfolding takeRecord recordRefusal kindRefusal arrivalRefusal
+  arrival-taken e true true f g = rw (whole, e, f, g)
+  arrival-taken e true false f g = rw (whole, e, f, g)
+  arrival-taken e false b f g = rw (whole, e, f)
+
+  pub tick-taken : byte r 0 ≡ 84 → (b : Bool) → blankPart r 2 24 ≡ b → takeRecord σ (suc k) r ≡ cond b (takeTick σ (suc k) r) (record { tape = σ; event = refused (suc k) 11 })
+  unfolding takeRecord recordRefusal kindRefusal unusedRefusal
+  tick-taken e true f = rw (whole, e, f)
+  tick-taken e false f = rw (whole, e, f)
+
+  pub other-taken : byte r 0 ≢ 67 → byte r 0 ≢ 65 → byte r 0 ≢ 84 → takeRecord σ (suc k) r ≡ record { tape = σ; event = refused (suc k) 10 }
+  unfolding takeRecord recordRefusal kindRefusal
+  other-taken a b c = rw (whole, ne-eqb (byte r 0) 67 a, ne-eqb (byte r 0) 65 b, ne-eqb (byte r 0) 84 c)
 
 module _ (k : ℕ) (σ : Tape) (r : List ℕ) (whole : length r ≡ 24) (bytes : Small r) (L : Lawful k σ) (few : suc k < 10 ^ 20) where
   -- ---- questions 10 to 12
@@ -241,11 +292,6 @@ module _ (k : ℕ) (σ : Tape) (r : List ℕ) (whole : length r ≡ 24) (bytes :
   refused-done n h u = record { lines = refusedText (suc k) n ∷ []; cut = cuts-refused (suc k) n; step = unfit n (refusedText (suc k) n) u (refused-reads (suc k) n few h) refl refl; lawful = later }
 
   -- ---- a control write
-
-  pub control-taken : byte r 0 ≡ 67 → (b : Bool) → blankPart r 3 24 ≡ b → takeRecord σ (suc k) r ≡ cond b (takeControl σ (suc k) r) (record { tape = σ; event = refused (suc k) 11 })
-  unfolding takeRecord recordRefusal kindRefusal unusedRefusal
-  control-taken e true f = rw (whole, e, f)
-  control-taken e false f = rw (whole, e, f)
 
   written-done : IsControl r → Done (suc k) σ r (takeControl σ (suc k) r)
   unfolding takeControl controlWrite byteStep eventLines
@@ -286,23 +332,16 @@ module _ (k : ℕ) (σ : Tape) (r : List ℕ) (whole : length r ≡ 24) (bytes :
   control-done e = go (blankPart r 3 24) refl
     where
       go : (b : Bool) → blankPart r 3 24 ≡ b → Done (suc k) σ r (takeRecord σ (suc k) r)
-      go true f = subst (Done (suc k) σ r) (sym (control-taken e true f)) (written-done (record { kind = e; unused = blank-zeros r whole 21 3 refl f }))
-      go false f = subst (Done (suc k) σ r) (sym (control-taken e false f)) (refused-done 11 (omega arith) (no-control refl e (λ c. true≢false (sym (zeros-blank r whole 21 3 refl (c .unused)) ∙ f))))
+      go true f = subst (Done (suc k) σ r) (sym (control-taken k σ r whole e true f)) (written-done (record { kind = e; unused = blank-zeros r whole 21 3 refl f }))
+      go false f = subst (Done (suc k) σ r) (sym (control-taken k σ r whole e false f)) (refused-done 11 (omega arith) (no-control refl e (λ c. true≢false (sym (zeros-blank r whole 21 3 refl (c .unused)) ∙ f))))
 
   -- ---- an arrival
-
-  pub arrival-taken : byte r 0 ≡ 65 → (a b : Bool) → (blankPart r 2 4 && leb (byte r 1) 4) ≡ a → has (σ .pending) (byte r 1) ≡ b
-      → takeRecord σ (suc k) r ≡ cond a (cond b (record { tape = σ; event = refused (suc k) 12 }) (takeArrival σ (suc k) r)) (record { tape = σ; event = refused (suc k) 11 })
-  unfolding takeRecord recordRefusal kindRefusal arrivalRefusal
-  arrival-taken e true true f g = rw (whole, e, f, g)
-  arrival-taken e true false f g = rw (whole, e, f, g)
-  arrival-taken e false b f g = rw (whole, e, f)
 
   abbrev port : ℕ
   port = byte r 1
 
   -- What waits after it: on its port this packet, elsewhere what did.
-  pub waits-then : IsArrival r → has (σ .pending) port ≡ false → (j : ℕ) → j < 5 → waiting (takeArrival σ (suc k) r .tape) j ≡ cond (eqb port j) (some (suc k, drop 4 r)) (waiting σ j)
+  waits-then : IsArrival r → has (σ .pending) port ≡ false → (j : ℕ) → j < 5 → waiting (takeArrival σ (suc k) r .tape) j ≡ cond (eqb port j) (some (suc k, drop 4 r)) (waiting σ j)
   unfolding takeArrival packet
   waits-then c f j l = rw (with-port (σ .pending) port j (L .pending) (let h = c .port in omega arith) l f .1) (go (eqb port j) refl)
     where
@@ -315,6 +354,12 @@ module _ (k : ℕ) (σ : Tape) (r : List ℕ) (whole : length r ≡ 24) (bytes :
           let other = eqb-false port j e in
           rw (getD-set-other (σ .records) port j (suc k) 0 (λ z. other (sym z)), packet-other (σ .arrivals) (drop 4 r) port j (λ z. other (sym z)) (length-drop 4 r ∙ omega arith))
 
+  pub kept-between : IsArrival r → has (σ .pending) port ≡ false → between (takeArrival σ (suc k) r .tape) ≡ record { store = σ .store; waits = set (between σ .waits) port (some (suc k, drop 4 r)) }
+  unfolding takeArrival
+  kept-between c f =
+      let h = c .port in
+      ap (λ (w : List Waiting). record { store = σ .store; waits = w }) (five-set (waiting (takeArrival σ (suc k) r .tape)) (waiting σ) port (some (suc k, drop 4 r)) (omega arith) (waits-then c f))
+
   kept-done : IsArrival r → has (σ .pending) port ≡ false → Done (suc k) σ r (takeArrival σ (suc k) r)
   unfolding takeArrival eventLines
   kept-done c f =
@@ -322,7 +367,7 @@ module _ (k : ℕ) (σ : Tape) (r : List ℕ) (whole : length r ≡ 24) (bytes :
       record {
         lines = [];
         cut = cuts-none;
-        step = kept c (waits-on σ port (omega arith) ∙ rw f) refl (ap (λ (w : List Waiting). record { store = σ .store; waits = w }) (five-set (waiting (takeArrival σ (suc k) r .tape)) (waiting σ) port (some (suc k, drop 4 r)) (omega arith) (waits-then c f)));
+        step = kept c (waits-on σ port (omega arith) ∙ rw f) refl (kept-between c f);
         lawful = record {
           store = L .store;
           pending = with-port (σ .pending) port 0 (L .pending) (omega arith) (omega arith) f .0;
@@ -340,29 +385,16 @@ module _ (k : ℕ) (σ : Tape) (r : List ℕ) (whole : length r ≡ 24) (bytes :
       set-at-most (x ∷ l) (suc i) v zero h = h
       set-at-most (x ∷ l) (suc i) v (suc p) h = set-at-most l i v p h
 
-  -- Its questions: unused bytes and port, then whether the port has a packet.
-  pub fit : (blankPart r 2 4 && leb (byte r 1) 4) ≡ true → byte r 0 ≡ 65 → IsArrival r
-  fit f e =
-      let zeros = sym (blank-two r whole) ∙ and-left (blankPart r 2 4) (leb (byte r 1) 4) f in
-      record {
-        kind = e;
-        port = leb-true (byte r 1) 4 (and-right (blankPart r 2 4) (leb (byte r 1) 4) f);
-        unused = (eqb-true (byte r 2) 0 (and-left (eqb (byte r 2) 0) _ zeros), eqb-true (byte r 3) 0 (and-left (eqb (byte r 3) 0) true (and-right (eqb (byte r 2) 0) _ zeros)));
-      }
-
-  pub fit-passes : IsArrival r → (blankPart r 2 4 && leb (byte r 1) 4) ≡ true
-  fit-passes c = rw (blank-two r whole, c .unused .0, c .unused .1, le-leb (byte r 1) 4 (c .port))
-
   arrival-done : byte r 0 ≡ 65 → Done (suc k) σ r (takeRecord σ (suc k) r)
   arrival-done e = go (blankPart r 2 4 && leb (byte r 1) 4) (has (σ .pending) (byte r 1)) refl refl
     where
       go : (a b : Bool) → (blankPart r 2 4 && leb (byte r 1) 4) ≡ a → has (σ .pending) (byte r 1) ≡ b → Done (suc k) σ r (takeRecord σ (suc k) r)
       go true true f g =
-          let c = fit f e in
+          let c = arrival-fit r whole e f in
           let some-packet : waitsOn (between σ) port ≡ some (getD (σ .records) port 0, packet (σ .arrivals) port) = waits-on σ port (let h = c .port in omega arith) ∙ rw g in
-          subst (Done (suc k) σ r) (sym (arrival-taken e true true f g)) (refused-done 12 (omega arith) (occupied refl c (λ z. none-some (sym z ∙ some-packet))))
-      go true false f g = subst (Done (suc k) σ r) (sym (arrival-taken e true false f g)) (kept-done (fit f e) g)
-      go false b f g = subst (Done (suc k) σ r) (sym (arrival-taken e false b f g)) (refused-done 11 (omega arith) (no-arrival refl e (λ c. true≢false (sym (fit-passes c) ∙ f))))
+          subst (Done (suc k) σ r) (sym (arrival-taken k σ r whole e true true f g)) (refused-done 12 (omega arith) (occupied refl c (λ z. none-some (sym z ∙ some-packet))))
+      go true false f g = subst (Done (suc k) σ r) (sym (arrival-taken k σ r whole e true false f g)) (kept-done (arrival-fit r whole e f) g)
+      go false b f g = subst (Done (suc k) σ r) (sym (arrival-taken k σ r whole e false b f g)) (refused-done 11 (omega arith) (no-arrival refl e (λ c. true≢false (sym (fit-passes r whole c) ∙ f))))
 
   -- ---- a tick
 
@@ -377,17 +409,9 @@ module _ (k : ℕ) (σ : Tape) (r : List ℕ) (whole : length r ≡ 24) (bytes :
     best-effort = refl;
     ports = L .pending;
     whole = L .whole;
-    none-else = λ p h e. absent (getD (σ .records) p 0, packet (σ .arrivals) p) (has (σ .pending) p) (sym (waits-on σ p h) ∙ e);
-    arrival = λ p h n x e. let (t, y) = present (getD (σ .records) p 0, packet (σ .arrivals) p) (n, x) (has (σ .pending) p) (sym (waits-on σ p h) ∙ e) in (t, λ j l. sym (packet-byte (σ .arrivals) p j l) ∙ ap (λ (z : ℕ × List ℕ). byte (z .1) j) y);
+    none-else = waits-none σ;
+    arrival = λ p h n x e. let (t, y) = waits-some σ p h (n, x) e in (t, λ j l. sym (packet-byte (σ .arrivals) p j l) ∙ ap (λ (z : ℕ × List ℕ). byte (z .1) j) y);
   }
-    where
-      absent : (x : ℕ × List ℕ) (t : Bool) → cond t (some x) none ≡ none → t ≡ false
-      absent x true e = none-some (sym e)
-      absent x false e = refl
-
-      present : (x y : ℕ × List ℕ) (t : Bool) → cond t (some x) none ≡ some y → (t ≡ true) × (x ≡ y)
-      present x y true e = (refl, some-inj e)
-      present x y false e = none-some e
 
   -- The refusals of the arrivals that an accepted tick took, port by port.
   refusals-said : (ans : List ℕ) → ((p : ℕ) → p < 5 → (byte ans (5 + p) < 6) ⊎ ((has (σ .pending) p ≡ true) × (6 ≤ byte ans (5 + p)) × (byte ans (5 + p) ≤ 8)))
@@ -470,23 +494,14 @@ module _ (k : ℕ) (σ : Tape) (r : List ℕ) (whole : length r ≡ 24) (bytes :
       go true e = accepted-done c (eqb-true n 0 e)
       go false e = turned-away-done c n refl (eqb-false n 0 e) (tick-number (σ .store) (σ .pending) (byte r 1) (σ .arrivals) (zeros 100) (zeros 20))
 
-  pub tick-taken : byte r 0 ≡ 84 → (b : Bool) → blankPart r 2 24 ≡ b → takeRecord σ (suc k) r ≡ cond b (takeTick σ (suc k) r) (record { tape = σ; event = refused (suc k) 11 })
-  unfolding takeRecord recordRefusal kindRefusal unusedRefusal
-  tick-taken e true f = rw (whole, e, f)
-  tick-taken e false f = rw (whole, e, f)
-
   tick-done : byte r 0 ≡ 84 → Done (suc k) σ r (takeRecord σ (suc k) r)
   tick-done e = go (blankPart r 2 24) refl
     where
       go : (b : Bool) → blankPart r 2 24 ≡ b → Done (suc k) σ r (takeRecord σ (suc k) r)
-      go true f = subst (Done (suc k) σ r) (sym (tick-taken e true f)) (ticked-done (record { kind = e; unused = blank-zeros r whole 22 2 refl f }))
-      go false f = subst (Done (suc k) σ r) (sym (tick-taken e false f)) (refused-done 11 (omega arith) (no-tick refl e (λ c. true≢false (sym (zeros-blank r whole 22 2 refl (c .unused)) ∙ f))))
+      go true f = subst (Done (suc k) σ r) (sym (tick-taken k σ r whole e true f)) (ticked-done (record { kind = e; unused = blank-zeros r whole 22 2 refl f }))
+      go false f = subst (Done (suc k) σ r) (sym (tick-taken k σ r whole e false f)) (refused-done 11 (omega arith) (no-tick refl e (λ c. true≢false (sym (zeros-blank r whole 22 2 refl (c .unused)) ∙ f))))
 
   -- ---- by its kind
-
-  pub other-taken : byte r 0 ≢ 67 → byte r 0 ≢ 65 → byte r 0 ≢ 84 → takeRecord σ (suc k) r ≡ record { tape = σ; event = refused (suc k) 10 }
-  unfolding takeRecord recordRefusal kindRefusal
-  other-taken a b c = rw (whole, ne-eqb (byte r 0) 67 a, ne-eqb (byte r 0) 65 b, ne-eqb (byte r 0) 84 c)
 
   pub record-done : Done (suc k) σ r (takeRecord σ (suc k) r)
   record-done = go (eqb (byte r 0) 67) (eqb (byte r 0) 65) (eqb (byte r 0) 84) refl refl refl
@@ -499,4 +514,4 @@ module _ (k : ℕ) (σ : Tape) (r : List ℕ) (whole : length r ≡ 24) (bytes :
           let a = eqb-false (byte r 0) 67 e in
           let b = eqb-false (byte r 0) 65 f in
           let c = eqb-false (byte r 0) 84 g in
-          subst (Done (suc k) σ r) (sym (other-taken a b c)) (refused-done 10 (omega arith) (no-kind refl a b c))
+          subst (Done (suc k) σ r) (sym (other-taken k σ r whole a b c)) (refused-done 10 (omega arith) (no-kind refl a b c))
