@@ -37,7 +37,7 @@ module _ (s : List ℕ) (i m : ℕ) (em : m ≡ board8 .get s (Mask, i)) where
     where
       go : (p : ℕ) → p < 5 → (t : Bool) → has m p ≡ t → (o : Option Key) × Sees s p i o × (getD l′ p 0 ≡ offered o i (getD l p 0))
       go p h true z = (some k, sees p true z (some k) F, O .each p h ∙ rw (has-low m p h, z, e))
-      go p h false z = (none, sees p false z none (ineligible-seen (bits 1) _ _ _), O .each p h ∙ rw (has-low m p h, z))
+      go p h false z = (none, sees p false z none (ineligible-seen (bits 1) _ _ _), O .each p h ∙ rw (has-low m p h, z) refl)
 
   -- Without a port.
   pub offered-none : (l : List ℕ) → m % 32 ≡ 0 → Offered s i l l

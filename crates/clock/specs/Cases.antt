@@ -42,7 +42,7 @@ aheadBy b Ahead x t = x - t
 aheadBy b AheadAcross x t = restOf b (t - x)
 
 -- "On-time: 0 0 l(m) + d - t", "Early: 0 1 l(m) - t": the line of a packet by the case of its time x, where l is deadline - t. The constructor is the figure's second bit, the first number the figure's.
--- The second number decides among equal ones (document 02, [4]): how far x is from half a turn before t on, and l.
+-- The second number decides among equal ones (document 02, [4]): how far x is after half a turn before t, and for an early one l.
 abbrev pub keyBy : ℕ → Case → ℕ → ℕ → ℕ → Key
 keyBy b Behind x t l = OnTime l (2 ^ pred b - (t - x))
 keyBy b BehindAcross x t l = OnTime l (x - t - 2 ^ pred b)

@@ -52,12 +52,13 @@ module _ (from : Bench → Bench) (choose : Bench → ℕ → ℕ → Grant ℕ)
   unfolding KeepsQueues
   by-the-area K = subst ByTheArea works K
 
--- Ours, which is built of its own parts.
+-- Ours is the one built of our parts.
 own-parts : (b : Bench) (k : Call) → engineBy kept byQueues kept b k ≡ benchStep board8 b k
 unfolding engineBy workBy benchStep E.tick E.ticked E.arrivedBench E.tickedBy
 own-parts b (control register v) = refl
 own-parts b (tick k out ans) = refl
 
+-- What it does.
 abbrev ours : Outcome Bench
 ours = workBy kept byQueues kept reordered 0 0 (replicate 100 0)
 

@@ -1,13 +1,7 @@
 -- `clock::key_of` meets its contract: what holds in a case keeps its sums and differences from 0 to 255, they are the figure's line, and that is the key. Assumes nothing.
 use Rattle.rules.specs.Areas.{bits}
 use native.Mathlib.Omega.{arith}
-use mathlib.Core.Path.{sym, ap, subst}
-use mathlib.Core.Bool.{true}
-use mathlib.Core.Option.{some}
-use Prim.Native.Nat.{ℕ}
 use Rattle.clock.specs.declared.Case.the-variants.{Behind, BehindAcross, Ahead, AheadAcross}
-use Rattle.clock.specs.declared.Key.the-variants.{Early}
-use Rattle.clock.specs.Cases.{Fig7}
 use Rattle.clock.proofs.Cases.{told, key-line, line-key}
 use borrow.Author.Needs.{needs}
 use Rattle.clock.proofs.key_of.Statement.{statement}
