@@ -265,7 +265,7 @@ struct Ran {
     bytes: u64,
 }
 
-// The whole tape, turn after turn.
+// The whole tape, turn after turn: each gets the place and the bytes held that the last one left.
 fn run(
     name: &[u8],
     style: Style,

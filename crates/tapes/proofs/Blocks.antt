@@ -4,7 +4,7 @@ use mathlib.Core.Path.{_≡_, refl, sym, ap, _∙_}
 use mathlib.Core.Bool.{Bool, false}
 use mathlib.Core.List.{List, [], _∷_, _++_, append-nil, append-assoc, flatten}
 use native.Mathlib.Omega.{arith}
-use lib.ListN.{length, length-append, take, drop, take-append-drop}
+use lib.ListN.{length, length-append, length-drop, take, drop, take-append-drop}
 use lib.Seq.{take-length, length-take-le}
 use Rattle.records.specs.Records.{recordLength, recordsIn}
 use Rattle.events.specs.Tape.{after, eventsOf}
@@ -12,7 +12,7 @@ use Rattle.events.proofs.Joined.{after-joined}
 use Rattle.pages.specs.Printing.{Paged}
 use Rattle.tapes.specs.declared.printing.Style.{Style}
 use Rattle.tapes.specs.Printed.{printEvents, printEnd}
-use Rattle.tapes.specs.Blocks.{Between, unread, turned, withEnd, toTake, turn, looped, ReadsPrintTheTape, Reached}
+use Rattle.tapes.specs.Blocks.{Between, unread, turned, withEnd, toTake, turn, looped, ReadsPrintTheTape, Reached, NoByteLost}
 use Rattle.tapes.proofs.Texts.{print-append, all-printed}
 
 -- ---- reads
@@ -50,6 +50,25 @@ reads-print-the-tape style reads last =
     let o = looped style unread reads in
     rw (take-length (o .left .held ++ last), ← append-assoc)
     (ap (λ (t : Paged). t .text ++ printEnd style (t .page)) (looped-joined style unread reads last) ∙ all-printed style (flatten reads ++ last))
+
+-- ---- bytes
+
+-- The bytes in records and the bytes held are those of before and those read.
+looped-counts : (style : Style) (b : Between) (reads : List (List ℕ))
+    → recordLength * looped style b reads .left .place .number + length (looped style b reads .left .held) ≡ recordLength * b .place .number + length (b .held) + length (flatten reads)
+unfolding looped turn turned withEnd toTake flatten
+looped-counts style b [] = omega arith
+looped-counts style b (r ∷ rs) =
+    let block = b .held ++ r in
+    let n = toTake false (length block) in
+    omega (arith, looped-counts style (turn style false b r .left) rs, length-take-le n block (omega arith), length-drop n block, length-append (b .held) r, length-append r (flatten rs))
+
+pub no-byte-lost : NoByteLost
+unfolding NoByteLost turn turned withEnd
+no-byte-lost style ended turns bytes block b r k =
+    let o = looped style unread (r .reads) .left in
+    rw (← r .joined)
+    (λ e. omega (arith, e, ap (λ (q : Between). q .place .number) (r .left), looped-counts style unread (r .reads), length-append (o .held) (r .last), length-append (flatten (r .reads)) (r .last), r .all))
 
 -- ---- the loop, turn after turn
 

@@ -74,8 +74,8 @@ ReadsPrintTheTape = (style : Style) (reads : List (List ℕ)) (last : List ℕ) 
     let o = looped style unread reads in
     o .text ++ turn style true (o .left) last .text ≡ printed style (flatten reads ++ last)
 
--- What a loop is to have come to, of which are known how many turns it made, how many bytes their reads brought in all, the bytes of the last block, and whether the input ended there: what is left is what such reads leave.
--- A byte held that gets lost or is taken twice makes the bytes in records and in the last block another number than were read, and then there are no such reads. Which bytes the reads brought it doesn't say, but for the last block.
+-- What a loop has come to that made so many turns, whose reads brought so many bytes in all: its last block, and what is left after it, are those of the definition over such reads, whether the input ended with the last or not.
+-- By their number this excludes bytes held that get lost or are taken twice (`NoByteLost`). Which bytes a read brought no contract says, so that bytes held which are exchanged for as many others between two turns don't show here: that a turn's block begins with the bytes handed to it, and that it hands on the bytes left of it, is said by program's `turn`.
 pub record Reached (style : Style) (ended : Bool) (turns bytes : ℕ) (block : List ℕ) (b : Between) : Type 0 where
   pub reads : List (List ℕ)
   pub last : List ℕ
@@ -83,3 +83,8 @@ pub record Reached (style : Style) (ended : Bool) (turns bytes : ℕ) (block : L
   pub all : length (flatten reads ++ last) ≡ bytes
   pub joined : looped style unread reads .left .held ++ last ≡ block
   pub left : b ≡ turn style ended (looped style unread reads .left) last .left
+
+-- The bytes read are those of the k records before the last block, and the block's.
+unfoldable pub NoByteLost : Type 0
+NoByteLost = (style : Style) (ended : Bool) (turns bytes : ℕ) (block : List ℕ) (b : Between) → Reached style ended turns bytes block b
+    → (k : ℕ) → b .place .number ≡ k + recordsIn (take (toTake ended (length block)) block) → recordLength * k + length block ≡ bytes

@@ -52,10 +52,10 @@ module _ (p : Place) (e : p ≡ begin) where
   begun-page = rw e (omega arith, omega arith, omega arith)
 
 -- The loop stops after a turn.
-stopped : (more : Bool) (reads : ℕ) → (more && ltb reads 281474976710656) ≡ false → (reads ≡ 0 → more ≡ true) → 0 < reads
-stopped true reads left first = omega (arith, ltb-false reads 281474976710656 left)
-stopped false zero left first = absurd (true≢false (sym (first refl)))
-stopped false (suc reads) left first = omega arith
+stopped : (more : Bool) (reads bound : ℕ) → 0 < bound → (more && ltb reads bound) ≡ false → (reads ≡ 0 → more ≡ true) → 0 < reads
+stopped true reads bound some left first = omega (arith, ltb-false reads bound left)
+stopped false zero bound some left first = absurd (true≢false (sym (first refl)))
+stopped false (suc reads) bound some left first = omega arith
 
 pub record SoFar (style : Style) (block : List ℕ) (b : Between) (end : TurnEnd) (reads bytes : ℕ) : Type 0 where
   pub within : reads ≤ 281474976710656
@@ -120,7 +120,7 @@ module _ (c : tie.After-reading Inv-loop μ-loop) where
   loop-at = test-at .before .before
 
   below : loop-at .loop .reads < 281474976710656
-  below = ltb-true (loop-at .loop .reads) _ (and-right (loop-at .loop .end .more) _ (test-at .if1 .taken))
+  below = omega (arith, ltb-true (loop-at .loop .reads) _ (and-right (loop-at .loop .end .more) _ (test-at .if1 .taken)))
 
   full : length (turn-at .turn .last .1 .1 .1 .1 .1 .1 .1 .0) ≡ 1024 * recordLength
   full =
@@ -169,7 +169,7 @@ returns : tie.Need-returns Inv-loop μ-loop
 returns c =
     let l = c .before .before .loop in
     let s = l .inv .1 in
-    (s .reached (stopped (l .end .more) (l .reads) (c .if1 .left) (s .first)), (s .goes-on, λ more. omega (arith, s .within, ltb-false (l .reads) _ (rw more at (c .if1 .left)))))
+    (s .reached (stopped (l .end .more) (l .reads) _ (omega arith) (c .if1 .left) (s .first)), (s .goes-on, λ more. omega (arith, s .within, ltb-false (l .reads) _ (rw more at (c .if1 .left)))))
 
 pub run-spec : {M : Type 1} → statement M
 run-spec =
