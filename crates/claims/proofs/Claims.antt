@@ -49,4 +49,5 @@ claims = record {
   pages = Pages.pages-printed;
   pages-as-ticks-come = AsTicksCome.pages-as-ticks-come;
   reads-print-the-tape = Reads.reads-print-the-tape;
+  no-byte-lost = Reads.no-byte-lost;
 }

@@ -18,7 +18,7 @@ use Rattle.display.specs.Display.{DisplayShown}
 use Rattle.pages.specs.Claims.{PagesAsTicksCome}
 use Rattle.tapes.specs.declared.printing.Style.the-variants.{Lines, Pages}
 use Rattle.tapes.specs.Printed.{printed}
-use Rattle.tapes.specs.Blocks.{ReadsPrintTheTape}
+use Rattle.tapes.specs.Blocks.{ReadsPrintTheTape, NoByteLost}
 use Rattle.readback.specs.TapePrinted.{TapePrinted, OnlyPrinter}
 use Rattle.readback.specs.Example.{PrintsTheExample}
 use Rattle.readback.specs.PagesPrinted.{PagesPrinted}
@@ -71,5 +71,6 @@ pub record Claims : Type 0 where
   -- Request [3]: what `page` prints are pages of the T lines that `tape` prints of the same input, each once, with what they say was withdrawn; and text that goes out as the ticks come makes these pages.
   pub pages : PagesPrinted (printed Lines) (printed Pages)
   pub pages-as-ticks-come : PagesAsTicksCome
-  -- However reads cut the input, both programs' loop prints what is printed of it as a whole.
+  -- However reads cut the input, both programs' loop prints what is printed of it as a whole; and a loop that meets its contract loses no byte that it held.
   pub reads-print-the-tape : ReadsPrintTheTape
+  pub no-byte-lost : NoByteLost
