@@ -251,12 +251,15 @@ pub record Done (k : ℕ) (σ : Tape) (r : List ℕ) (t : Taken) : Type 0 where
 
 -- Five places, of which one is set.
 five-set : {A : Type 0} (f g : ℕ → A) (p : ℕ) (v : A) → p < 5 → ((j : ℕ) → j < 5 → f j ≡ cond (eqb p j) v (g j)) → f 0 ∷ f 1 ∷ f 2 ∷ f 3 ∷ f 4 ∷ [] ≡ set (g 0 ∷ g 1 ∷ g 2 ∷ g 3 ∷ g 4 ∷ []) p v
-five-set f g zero v l h = rw (h 0 (omega arith), h 1 (omega arith), h 2 (omega arith), h 3 (omega arith), h 4 (omega arith))
-five-set f g (suc zero) v l h = rw (h 0 (omega arith), h 1 (omega arith), h 2 (omega arith), h 3 (omega arith), h 4 (omega arith))
-five-set f g (suc (suc zero)) v l h = rw (h 0 (omega arith), h 1 (omega arith), h 2 (omega arith), h 3 (omega arith), h 4 (omega arith))
-five-set f g (suc (suc (suc zero))) v l h = rw (h 0 (omega arith), h 1 (omega arith), h 2 (omega arith), h 3 (omega arith), h 4 (omega arith))
-five-set f g (suc (suc (suc (suc zero)))) v l h = rw (h 0 (omega arith), h 1 (omega arith), h 2 (omega arith), h 3 (omega arith), h 4 (omega arith))
-five-set f g (suc (suc (suc (suc (suc p))))) v l h = absurd (omega arith)
+five-set f g p v l h = rw (h 0 (omega arith), h 1 (omega arith), h 2 (omega arith), h 3 (omega arith), h 4 (omega arith)) (placed p l)
+  where
+    placed : (p : ℕ) → p < 5 → cond (eqb p 0) v (g 0) ∷ cond (eqb p 1) v (g 1) ∷ cond (eqb p 2) v (g 2) ∷ cond (eqb p 3) v (g 3) ∷ cond (eqb p 4) v (g 4) ∷ [] ≡ set (g 0 ∷ g 1 ∷ g 2 ∷ g 3 ∷ g 4 ∷ []) p v
+    placed zero l = refl
+    placed (suc zero) l = refl
+    placed (suc (suc zero)) l = refl
+    placed (suc (suc (suc zero))) l = refl
+    placed (suc (suc (suc (suc zero)))) l = refl
+    placed (suc (suc (suc (suc (suc p))))) l = absurd (omega arith)
 
 -- What taking a whole record comes to, by its kind and the answers to its questions.
 module _ (k : ℕ) (σ : Tape) (r : List ℕ) (whole : length r ≡ 24) where
