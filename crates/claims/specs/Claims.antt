@@ -34,7 +34,7 @@ pub record Claims : Type 0 where
   pub what-a-call-leaves : Leaves board8
   -- Document 01, "Bytes and areas": the state's fields and the fresh state, in its numbers.
   pub layout : LaidOut8
-  -- Soundness kept: a fresh router is sound, and so is whatever calls leave of a sound state, with no slot lost.
+  -- Document 01, "Is the state sound?", and demand 3, "No slot is lost": a fresh router is sound, and so is whatever calls leave of any sound state.
   pub sound-kept : SoundKept board8
   -- Demand 3's agreement from any sound state, whatever made it so.
   pub agreement-from-any-sound-state : AgreesFromSound board8
@@ -58,7 +58,7 @@ pub record Claims : Type 0 where
 
   -- Request [1]: from queues filled from any sound state, over any list of calls, the engine is the comparator, every queue holds its port's slots in order, and a port sends a queue's first.
   pub queues-agree : QueuesAgree
-  -- Demand 1 of its entries: a refused call alters nothing.
+  -- Demand 1, of the engine's entries: a refused call alters nothing.
   pub engine-unaltered : BenchUnaltered board8
   -- Request [1], "kept over the calls after it": a tick goes by the queues lent to it; engines that fill them anew or ask the comparator are shut out.
   pub engine-keeps-its-queues : EnginesShutOut
