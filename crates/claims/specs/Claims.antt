@@ -30,7 +30,7 @@ pub record Claims : Type 0 where
   pub demand-3 : Demand3
   -- Demand 1 and request [2]: each entry's number on any bytes, the part of the state that is at fault and the lowest bad slot; a refused call alters nothing.
   pub refusals-and-faults : EntryLaws board8
-  -- Demand 2, "down to every byte of state after": what an accepted control write or tick leaves as it was, field by field.
+  -- Demand 2, "every byte of state after": what an accepted control write or tick leaves as it was, field by field.
   pub what-a-call-leaves : Leaves board8
   -- Document 01, "Bytes and areas": the state's fields and the fresh state, in its numbers.
   pub layout : LaidOut8
