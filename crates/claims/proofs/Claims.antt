@@ -1,6 +1,4 @@
 -- The claims are proved, each by the constant of the crate that it belongs to. Assumes nothing.
-use Rattle.rules.specs.Board.{board8}
-use Rattle.rules.proofs.Board8Laws.{lawful8}
 use Rattle.rules.proofs.Theorem as Rules
 use Rattle.cases.proofs.Table as Table
 use Rattle.cases.proofs.Runs as Runs
@@ -27,10 +25,10 @@ pub claims : Claims
 claims = record {
   demand-3 = Rules.demand3;
   refusals-and-faults = Entries.entries;
-  what-a-call-leaves = Leaving.leaves board8 lawful8;
+  what-a-call-leaves = Leaving.callsLeave;
   layout = Rules.layout;
-  sound-kept = Sound.sound-kept board8 lawful8;
-  agreement-from-any-sound-state = Sound.agrees-from-sound board8 lawful8;
+  sound-kept = Sound.soundKept;
+  agreement-from-any-sound-state = Sound.agreesFromSound;
   cases = Table.cases;
   runs = Runs.runs;
   display = Display.display-shown;
