@@ -1,4 +1,5 @@
 // Step 2 of a tick: one pass over the slots finds the winners of the five ports.
+#![tactic(auto)]
 ghost use Rattle.std.specs.Prelude.{◌≡◌, cond, suc, ◌+◌, ◌*◌, ◌<◌, length};
 ghost use Rattle.rules.specs.Areas.{nobody, best_effort};
 ghost use Rattle.rules.specs.Board.{clock, board8};

@@ -1,4 +1,5 @@
 // Control writes: the control latch, the two commits, and which value fits a register.
+#![tactic(auto)]
 ghost use Rattle.std.specs.Prelude.{◌≡◌, ◌≤◌};
 ghost use Rattle.rules.specs.Areas.{fits, latch_place};
 ghost use Rattle.rules.specs.Board.{Latch as LatchField, board8};
