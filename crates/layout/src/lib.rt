@@ -1,5 +1,6 @@
 // The layout of what the router is lent: its sizes, the numbers of refusals, the fields of the state, a port's bit, and a copy.
 #![tactic(auto)]
+
 ghost use Rattle.std.specs.Prelude.{◌≡◌, ◌+◌, ◌*◌, ◌≤◌, ◌<◌, length, get_or, set, replicate};
 ghost use Rattle.std.proofs.lemmas.List.Edits.{sets};
 ghost use Rattle.rules.specs.Areas.{has};
