@@ -2,12 +2,8 @@
 use Rattle.rules.specs.Areas.{bits}
 use Rattle.rules.specs.Clock.{minus}
 use Rattle.std.proofs.Common.{rules}
-use Rattle.clock.proofs.since.Statement.{statement}
-use Rattle.clock.proofs.since.Tie as tie
+use Rattle.clock.proofs.since.Goals as goal
 
-returns : tie.Need-returns
+pub returns : goal.returns
 unfolding minus bits
 returns c = search rules
-
-pub since-spec : {M : Type 1} → statement M
-since-spec = tie.close (tie.spec (λ c κs. search rules) returns)
