@@ -11,7 +11,7 @@ use lib.Dec.{eqb}
 use lib.IntN.{ℤ}
 use borrow.Author.Tests.{eq-eqb, ne_eqb, eqb-true, lt-ltb, le-ltb}
 use Rattle.rules.specs.Account.{stored, Kept}
-use Rattle.rules.specs.Areas.{half, packet, has, Store}
+use Rattle.rules.specs.Areas.{half, has, Store}
 use Rattle.rules.specs.Board.{Board, Kind, Free, Idle, Time, Deadline, Mask, Field, clock, free}
 use Rattle.rules.specs.Order.{count, counted, top_first}
 use Rattle.rules.specs.Questions.{stack}
