@@ -20,7 +20,7 @@ pub struct ConnectionId(pub u8);
 pub struct ClockReading(pub u8);
 
 // A slot's three bytes: logical arrival time, deadline, mask of ports still to serve.
-#[derive(Drop)]
+#[derive(Clone, Copy)]
 pub struct Slot(pub [u8; 3]);
 
 // A router before it is copied to the lent area: the bytes of its state, and its slots.
