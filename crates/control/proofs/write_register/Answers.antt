@@ -5,14 +5,12 @@ use mathlib.Core.Path.{◌≡◌, refl, ◌∙◌}
 use mathlib.Core.List.{List}
 use mathlib.Core.Logic.{◌≢◌}
 use native.Mathlib.Omega.{arith}
-use borrow.Author.Rules.{rules}
 use Rattle.rules.specs.Areas.{latch_place}
 use Rattle.rules.specs.Board.{Latch as LatchField, board8}
 use Rattle.rules.specs.Questions.{written}
 use Rattle.control.specs.declared.Latch.{Latch}
 use Rattle.control.specs.Latches.{latch_with, latch_byte}
-use Rattle.control.proofs.write_register.Statement.{statement}
-use Rattle.control.proofs.write_register.Tie as tie
+use Rattle.control.proofs.write_register.Goals as goal
 
 -- A register stored in the latch, and its byte from there in the state, is that register's store.
 stored-written : (s : List ℕ) (l : Latch) (v r : ℕ) → r ≤ 5 → r ≢ 3 → r ≢ 5 → board8.put s (LatchField, latch_place r) (latch_byte (latch_with l r v) r) ≡ written board8 r v s
@@ -25,35 +23,15 @@ stored-written s l v (suc (suc (suc (suc zero)))) h a b = refl
 stored-written s l v (suc (suc (suc (suc (suc zero))))) h a b = absurd (b refl)
 stored-written s l v (suc (suc (suc (suc (suc (suc n)))))) h a b = absurd (omega arith)
 
-returns : tie.Need-returns
+pub returns-in-3 : goal.returns-in-3
 unfolding written
-returns c = let e = c.before.before in
-    rw e.before.before.match.keys1 e.commit-entry.ensures
+returns-in-3 c = rw c.in-3.is c.commit_entry.ensures
 
-returns-2 : tie.Need-returns-2
+pub returns-in-5 : goal.returns-in-5
 unfolding written
-returns-2 c = let h = c.before.before in
-    rw h.before.before.match.keys2 h.commit-horizon.ensures
+returns-in-5 c = rw c.in-5.is c.commit_horizon.ensures
 
-returns-3 : tie.Need-returns-3
-returns-3 c =
-    let p = c.before.before in
-    let b = p.before in
-    let l = b.before.before in
-    let s = l.before in
-    let m = s.before.before.before in
-    let a = m.before.before.args in
-    p.put.ensures
-    ∙ rw (l.latch-place.ensures, b.byte.ensures, s.stored-in.ensures) (stored-written a.state.now s.before.read.result a.value a.register m.before.before.requires m.match.rest.0.1 m.match.rest.1)
-
-pub write-register-spec : {M : Type 1} → statement M
-write-register-spec =
-    tie.close
-    (tie.spec
-    (λ c κs. search rules) (λ c κs. search rules) (λ c κs. search rules) (λ c κs. search rules)
-    (λ c κs. search rules) (λ c κs. search rules) (λ c κs. search rules) (λ c. search rules)
-    returns
-    (λ c. search rules)
-    returns-2
-    (λ c. search rules)
-    returns-3)
+pub returns-in_default : goal.returns-in_default
+returns-in_default c =
+    c.put.ensures
+    ∙ rw (c.latch_place-place.ensures, c.byte.ensures, c.stored_in-latch.ensures) (stored-written c.args.state.now c.read.result c.args.value c.args.register c.requires c.in_default.rest.0.1 c.in_default.rest.1)
