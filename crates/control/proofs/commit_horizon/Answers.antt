@@ -1,16 +1,16 @@
 -- `control::commit_horizon` meets its contract. The loop's invariant: the state has the horizon for the ports of the mask below `port`. The measure
 -- is what is left of five. Assumes nothing.
 use Prim.Native.Nat.{ℕ, ◌+◌}
-use mathlib.Core.Bool.{Bool, true, false, cond}
+use mathlib.Core.Bool.{Bool, cond}
 use mathlib.Core.List.{List}
-use mathlib.Core.Path.{◌≡◌, refl, sym, ◌∙◌}
+use mathlib.Core.Path.{◌≡◌, refl}
 use native.Mathlib.Numerals.{add-one}
 use Rattle.rules.specs.Areas.{has}
 use Rattle.rules.specs.Board.{Horizon, board8}
 use Rattle.rules.specs.Questions.{commit_horizon}
 use borrow.Author.Rules.{rules}
+use native.Mathlib.Omega.{arith}
 use Rattle.control.proofs.commit_horizon.Goals as goal
-use Rattle.control.proofs.commit_horizon.Goals.{then-has_port, else-has_port}
 
 -- One port more, which the mask has or hasn't.
 next-port : (port mask horizon : ℕ) (s₀ s s' : List ℕ) (t : Bool) → s ≡ commit_horizon board8 port mask horizon s₀ → has mask port ≡ t → s' ≡ cond t (board8.put s (Horizon, port) horizon) s → s' ≡ commit_horizon board8 (port + 1) mask horizon s₀
@@ -22,8 +22,4 @@ unfolding commit_horizon
 loop-port-init c = (search rules, refl, refl)
 
 pub loop-port-preserved : goal.loop-port-preserved
-loop-port-preserved c =
-    elim c.if-has_port.branch [
-      | then-has_port w ↦ (search rules, search rules, next-port c.loop-port.port _ _ _ c.loop-port.state _ true c.loop-port.invariant.2 (sym c.has_port.ensures ∙ w.if-has_port.true) (w.state-is ∙ w.put.ensures))
-      | else-has_port w ↦ (search rules, search rules, next-port c.loop-port.port _ _ _ c.loop-port.state _ false c.loop-port.invariant.2 (sym c.has_port.ensures ∙ w.if-has_port.false) w.state-is)
-    ]
+loop-port-preserved c = (search rules, search rules, grind (arith, next-port))
