@@ -13,8 +13,8 @@ use layout::Router;
 #[unsafe(no_mangle)]
 pub extern "C" fn router_fresh(state: &mut [u8], memory: &mut [u8], clock: u8) -> u8
     ensures { ◌≡◌ {A = Outcome Store}
-        (record { reply = number_reply result; after = record { state = state.exit.now; memory = memory.new } })
-        (make_fresh board8 (record { state = state.entry.now; memory = memory.old }) clock) }
+        (record { reply = number_reply result; after = record { state = state.new; memory = memory.new } })
+        (make_fresh board8 (record { state = state.old; memory = memory.old }) clock) }
 {
     fresh::make_fresh(state, memory, clock)
 }
@@ -23,8 +23,8 @@ pub extern "C" fn router_fresh(state: &mut [u8], memory: &mut [u8], clock: u8) -
 #[unsafe(no_mangle)]
 pub extern "C" fn router_control(state: &mut [u8], memory: &[u8], register: u8, value: u8) -> u8
     ensures { ◌≡◌ {A = Outcome Store}
-        (record { reply = number_reply result; after = record { state = state.exit.now; memory = memory.now } })
-        (control_write board8 (record { state = state.entry.now; memory = memory.now }) register value) }
+        (record { reply = number_reply result; after = record { state = state.new; memory = memory.now } })
+        (control_write board8 (record { state = state.old; memory = memory.now }) register value) }
 {
     let number = questions::of_control(state, memory, register, value).number();
     if number != 0 {
@@ -46,8 +46,8 @@ pub extern "C" fn router_tick(
     waiting: u8,
 ) -> u8
     ensures { ◌≡◌ {A = Outcome Store}
-        (record { reply = record { number = result; outgoing = outgoing.new; answers = answers.new }; after = record { state = state.exit.now; memory = memory.new } })
-        (tick board8 (record { state = state.entry.now; memory = memory.old }) arriving waiting arrivals.now outgoing.old answers.old) }
+        (record { reply = record { number = result; outgoing = outgoing.new; answers = answers.new }; after = record { state = state.new; memory = memory.new } })
+        (tick board8 (record { state = state.old; memory = memory.old }) arriving waiting arrivals.now outgoing.old answers.old) }
 {
     let n = questions::of_tick(
         state, memory, arrivals, outgoing, answers, arriving, waiting,
