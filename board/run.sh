@@ -60,6 +60,7 @@ refusals() {
     step "refused: a global" strange '^target triple' '@strange = global i8 0'
     step "refused: a function from elsewhere" strange '^target triple' 'declare void @strange()'
     step "refused: a number of 128 bits" strange '^start:' '  %strange = alloca i128, align 16'
+    step "refused: a structure" strange '^start:' '  %strange = load { i8, i64 }, ptr %a0, align 8'
     step "refused: a load that is volatile" strange '%r0 = alloca i8' '  %strange = load volatile i8, ptr %r0, align 1'
     step "refused: a copy of a length that is no number" changed ', i64 16, i1 false' ', i64 %a1, i1 false'
     step "refused: an attribute" changed '{ nounwind "probe-stack"' '{ alwaysinline nounwind "probe-stack"'
@@ -70,13 +71,13 @@ refusals() {
     step "refused: a target without a back end" refused "can't compile for" archive_for sparc-none-elf
     step "refused: no such processor" refused "has no target" archive_for -mcpu=cortex-m99 thumbv7em-none-eabi
     step "refused: no such crate" refused "usage" archive_for $x86 tape
-    mkdir "$build/none"
-    ln -s "$(command -v dirname)" "$build/none/dirname"
-    step "refused: no kit" refused "there is no rt" env PATH="$build/none" /bin/sh "$top/host/archive-for.sh" $x86
-    printf '#!/bin/sh\necho "%s/START-HERE.md"\n' "$build" > "$build/none/rt"
-    chmod +x "$build/none/rt"
+    mkdir "$build/tools"
+    ln -s "$(command -v dirname)" "$build/tools/dirname"
+    step "refused: no kit" refused "there is no rt" env PATH="$build/tools" /bin/sh "$top/host/archive-for.sh" $x86
+    printf '#!/bin/sh\necho "%s/START-HERE.md"\n' "$build" > "$build/tools/rt"
+    chmod +x "$build/tools/rt"
     step "refused: a kit that is none" refused "there is no Rattle kit" \
-        env PATH="$build/none:$PATH" sh "$top/host/archive-for.sh" $x86
+        env PATH="$build/tools:$PATH" sh "$top/host/archive-for.sh" $x86
     step "refused: no module" refused "there is no module" env MODULE="$build/none" sh "$top/host/archive-for.sh" $x86
 }
 
