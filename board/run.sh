@@ -60,7 +60,7 @@ refusals() {
     step "refused: a global" strange '^target triple' '@strange = global i8 0'
     step "refused: a function from elsewhere" strange '^target triple' 'declare void @strange()'
     step "refused: a number of 128 bits" strange '^start:' '  %strange = alloca i128, align 16'
-    step "refused: a structure" strange '^start:' '  %strange = load { i8, i64 }, ptr %a0, align 8'
+    step "refused: a structure" strange '^start:' '  %strange = alloca { i8, i64 }, align 8'
     step "refused: a load that is volatile" strange '%r0 = alloca i8' '  %strange = load volatile i8, ptr %r0, align 1'
     step "refused: a copy of a length that is no number" changed ', i64 16, i1 false' ', i64 %a1, i1 false'
     step "refused: an attribute" changed '{ nounwind "probe-stack"' '{ alwaysinline nounwind "probe-stack"'
