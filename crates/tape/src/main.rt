@@ -1,4 +1,5 @@
 // The tape program: records from standard input, their lines to standard output.
+#![tactic(auto)]
 use tapes::printing::Style;
 
 fn main() {
