@@ -1,15 +1,15 @@
 -- `control::commit_horizon` meets its contract. The loop's invariant: the state has the horizon for the ports of the mask below `port`. The measure
 -- is what is left of five. Assumes nothing.
-use Prim.Native.Nat.{ℕ, ◌+◌, ◌-◌}
-use mathlib.Core.Bool.{Bool, true, false, cond}
+use Prim.Native.Nat.{ℕ, ◌+◌}
+use mathlib.Core.Bool.{Bool, cond}
 use mathlib.Core.List.{List}
-use mathlib.Core.Logic.{⊎_elim}
-use mathlib.Core.Path.{◌≡◌, refl, sym, ◌∙◌}
+use mathlib.Core.Path.{◌≡◌, refl}
 use native.Mathlib.Numerals.{add-one}
 use Rattle.rules.specs.Areas.{has}
 use Rattle.rules.specs.Board.{Horizon, board8}
 use Rattle.rules.specs.Questions.{commit_horizon}
 use borrow.Author.Rules.{rules}
+use native.Mathlib.Omega.{arith}
 use Rattle.control.proofs.commit_horizon.Goals as goal
 
 -- One port more, which the mask has or hasn't.
@@ -22,8 +22,4 @@ unfolding commit_horizon
 loop-port-init c = (search rules, refl, refl)
 
 pub loop-port-preserved : goal.loop-port-preserved
-loop-port-preserved c =
-    ⊎_elim
-    (λ w. (search rules, search rules, next-port c.loop-port.port _ _ _ c.loop-port.state _ true c.loop-port.invariant.2 (sym c.has_port.ensures ∙ w.0.taken) (w.5 ∙ w.2.ensures)))
-    (λ w. (search rules, search rules, next-port c.loop-port.port _ _ _ c.loop-port.state _ false c.loop-port.invariant.2 (sym c.has_port.ensures ∙ w.0.left) w.1))
-    c.if-has_port.branch
+loop-port-preserved c = (search rules, search rules, grind (arith, next-port))

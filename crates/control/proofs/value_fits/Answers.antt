@@ -15,4 +15,4 @@ returns-in-2 c = ⊎_elim (λ e. rw e) (λ e. rw e) c.in-2.is
 
 pub returns-in_default : goal.returns-in_default
 unfolding fits half
-returns-in_default c = simp (ne_eqb _ 1 (λ e. c.in_default.rest.0.1 (inl e)), ne_eqb _ 5 (λ e. c.in_default.rest.0.1 (inr e)), ne_eqb _ 2 (λ e. c.in_default.rest.1 (inl e)), ne_eqb _ 4 (λ e. c.in_default.rest.1 (inr e)), lt-ltb c.args.value 256 (omega arith))
+returns-in_default c = simp (ne_eqb _ 1 (λ e. c.in_default.in_default-own.rest.0.1 (inl e)), ne_eqb _ 5 (λ e. c.in_default.in_default-own.rest.0.1 (inr e)), ne_eqb _ 2 (λ e. c.in_default.in_default-own.rest.1 (inl e)), ne_eqb _ 4 (λ e. c.in_default.in_default-own.rest.1 (inr e)), lt-ltb c.args.value 256 (omega arith))

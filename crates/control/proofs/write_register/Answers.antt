@@ -34,4 +34,4 @@ returns-in-5 c = rw c.in-5.is c.commit_horizon.ensures
 pub returns-in_default : goal.returns-in_default
 returns-in_default c =
     c.put.ensures
-    ∙ rw (c.latch_place-place.ensures, c.byte.ensures, c.stored_in-latch.ensures) (stored-written c.args.state.now c.read.result c.args.value c.args.register c.requires c.in_default.rest.0.1 c.in_default.rest.1)
+    ∙ rw (c.latch_place-place.ensures, c.byte.ensures, c.stored_in-latch.ensures) (stored-written c.args.state.now c.read.result c.args.value c.args.register c.requires c.in_default.in_default-own.rest.0.1 c.in_default.in_default-own.rest.1)

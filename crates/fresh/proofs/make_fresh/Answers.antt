@@ -15,5 +15,5 @@ pub returns-then-memory-ne-MEMORY : goal.returns-then-memory-ne-MEMORY
 returns-then-memory-ne-MEMORY c = refused-memory board8 _ _ _ c.if-state-ne-STATE.false c.if-memory-ne-MEMORY.true c.number-then-memory-ne-MEMORY.ensures
 
 pub returns : goal.returns
-returns c = let e : c.copy_in.new.1.0 ≡ board8.fresh_state c.args.clock = c.copy_in.ensures ∙ rw c.fresh-router.ensures.0 (sets-all c.args.state.now _ (c.if-state-ne-STATE.false ∙ sym (lawful8.length-fresh c.args.clock))) in
+returns c = let e : c.copy_in.new.dst ≡ board8.fresh_state c.args.clock = c.copy_in.ensures ∙ rw c.fresh-router.ensures.0 (sets-all c.args.state.now _ (c.if-state-ne-STATE.false ∙ sym (lawful8.length-fresh c.args.clock))) in
     accepted board8 _ _ _ c.if-state-ne-STATE.false c.if-memory-ne-MEMORY.false (c.put_slots.ensures ∙ rw e (emptied-fresh c.args.clock)) c.clear.ensures c.number-2.ensures
