@@ -1,5 +1,6 @@
 // The page program: records from standard input, pages of their accepted ticks to standard output.
 #![tactic(auto)]
+
 use program::Streams;
 use tapes::printing::Style;
 

@@ -1,5 +1,6 @@
 // What the programs `tape` and `page` share: records from standard input, and what is printed of them to standard output as they come. What can't be read or written is said on standard error.
 #![tactic(auto)]
+
 ghost use Rattle.std.specs.Prelude.{◌+◌, ◌*◌, ◌≤◌, ◌<◌, ◌^◌, ◌≡◌, true, cond, [], ◌++◌, length, take, drop};
 ghost use Rattle.rules.specs.Areas.{memory_length, arrivals_length};
 ghost use Rattle.rules.specs.Board.{board8};

@@ -1,5 +1,6 @@
 // The tape program: records from standard input, their lines to standard output.
 #![tactic(auto)]
+
 use program::Streams;
 use tapes::printing::Style;
 
