@@ -2,6 +2,7 @@
 #![tactic(auto)]
 
 ghost use Rattle.std.specs.Prelude.{◌+◌, ◌*◌, ◌≤◌, ◌<◌, ◌^◌, ◌≡◌, true, cond, [], ◌++◌, length, take, drop};
+ghost use Rattle.std.specs.Io.KnownBytes.{Consumes, Appends, IsAtEnd};
 ghost use Rattle.rules.specs.Areas.{memory_length, arrivals_length};
 ghost use Rattle.rules.specs.Board.{board8};
 ghost use Rattle.records.specs.Records.{record_length};
@@ -10,7 +11,7 @@ ghost use Rattle.pages.specs.Values.{Unfilled};
 ghost use Rattle.tapes.specs.Printed.{print_end};
 ghost use Rattle.tapes.specs.Blocks as Blocks;
 ghost use Rattle.tapes.specs.Values.{place_of};
-ghost use Rattle.program.specs.Turns.{bytes_of, PartOfRecord, brought, Divided, between_of, is_going_on};
+ghost use Rattle.program.specs.Turns.{bytes_of, PartOfRecord, brought, Divided, between_of, is_going_on, PrintsTape};
 
 use layout::Router;
 use pages::Page;
@@ -38,7 +39,10 @@ pub struct Streams<I, O, E> {
 }
 
 // Says on standard error, after the program's name, what it can't do. Where even that can't be written, nothing is left to say.
-fn say<I, O, E: Write>(streams: &mut Streams<I, O, E>, name: &[u8], what: &[u8]) {
+fn say<I, O, E: Write>(streams: &mut Streams<I, O, E>, name: &[u8], what: &[u8])
+    ensures same_input { streams.new.input ≡ streams.old.input }
+    ensures same_output { streams.new.output ≡ streams.old.output }
+{
     let _ = streams.errors.write_all(name);
     let _ = streams.errors.write_all(what);
 }
@@ -48,7 +52,10 @@ fn write_out<I, O: Write, E: Write>(
     streams: &mut Streams<I, O, E>,
     name: &[u8],
     text: &[u8],
-) -> bool {
+) -> bool
+    ensures written { result ≡ true → Appends (O.contents streams.old.output) (O.contents streams.new.output) text.now }
+    ensures same_input { streams.new.input ≡ streams.old.input }
+{
     let written = streams.output.write_all(text).is_ok() && streams.output.flush().is_ok();
     if !written {
         say(streams, name, b"standard output can't be written\n");
@@ -75,6 +82,9 @@ fn read_more<I: Read, O, E: Write>(
     requires { held < length block.old }
     ensures filled_value { (result.filled ≡ held + result.count) × (result.filled ≤ length block.new) }
     ensures block_unchanged { take held block.new ≡ take held block.old }
+    ensures consumed { Consumes (I.remaining streams.old.input) (I.remaining streams.new.input) (take result.count (drop held block.new)) }
+    ensures at_end { result.ended ≡ true → IsAtEnd (I.remaining streams.new.input) }
+    ensures same_output { streams.new.output ≡ streams.old.output }
 {
     match streams.input.read(&mut block[held..]) {
         Ok(count) => Reading {
@@ -144,6 +154,9 @@ fn take_in<I: Read, O, E: Write>(
     ensures block_after { take result.reading.filled block.new ≡ bytes_of held ++ brought held result.reading block.new }
     ensures held_value { bytes_of result.held ≡ drop result.taken (take result.reading.filled block.new) }
     ensures divided { Divided held (length block.new) result }
+    ensures consumed { Consumes (I.remaining streams.old.input) (I.remaining streams.new.input) (brought held result.reading block.new) }
+    ensures at_end { result.reading.ended ≡ true → IsAtEnd (I.remaining streams.new.input) }
+    ensures same_output { streams.new.output ≡ streams.old.output }
 {
     let bytes = held.bytes;
     let count = held.count;
@@ -197,6 +210,8 @@ fn print_block<I, O: Write, E: Write>(
         (record { place = place_of state.new memory.new arrivals.new result.place; text = take result.length lines.new })
         (Blocks.with_end style ended (Blocks.turned style (place_of state.old memory.old arrivals.old place) block.now)) }
     ensures unfilled { Unfilled result.place.page }
+    ensures written { result.written ≡ true → Appends (O.contents streams.old.output) (O.contents streams.new.output) (take result.length lines.new) }
+    ensures same_input { streams.new.input ≡ streams.old.input }
 {
     let turned = stepping::run(state, memory, arrivals, place, block, style, lines);
     let place = turned.place;
@@ -238,6 +253,9 @@ fn turn<I: Read, O: Write, E: Write>(
         (Blocks.turn style result.input.reading.ended (between_of state.old memory.old arrivals.old place held) (brought held result.input.reading block.new)) }
     ensures divided { Divided held (length block.new) result.input × Unfilled result.printed.place.page }
     ensures more_value { result.more ≡ is_going_on result }
+    ensures consumed { Consumes (I.remaining streams.old.input) (I.remaining streams.new.input) (brought held result.input.reading block.new) }
+    ensures at_end { result.input.reading.ended ≡ true → IsAtEnd (I.remaining streams.new.input) }
+    ensures written { result.printed.written ≡ true → Appends (O.contents streams.old.output) (O.contents streams.new.output) (take result.printed.length lines.new) }
 {
     let input = take_in(streams, name, block, held);
     let reading = input.reading;
@@ -314,6 +332,8 @@ fn run<I: Read, O: Write, E: Write>(
         (between_of state.new memory.new arrivals.new result.end.printed.place result.end.input.held) }
     ensures more_value { result.end.more ≡ is_going_on result.end }
     ensures reads_value { result.end.more ≡ true → result.reads ≡ 2 ^ 48 }
+    ensures printed { result.end.input.reading.ended ≡ true → result.end.printed.written ≡ true
+        → PrintsTape style (I.remaining streams.old.input) (O.contents streams.old.output) (O.contents streams.new.output) }
 {
     let place = stepping::begin(state, memory, arrivals);
     let mut end = unread(place);
@@ -335,12 +355,14 @@ fn run<I: Read, O: Write, E: Write>(
     Ran { end, reads, bytes }
 }
 
-// Prints a tape: the program of that name.
+// Prints a tape: the program of that name. Says whether the tape was read to its end and all of it printed.
 pub fn print<I: Read, O: Write, E: Write>(
     streams: &mut Streams<I, O, E>,
     name: &[u8],
     style: Style,
-) {
+) -> bool
+    ensures { result ≡ true → PrintsTape style (I.remaining streams.old.input) (O.contents streams.old.output) (O.contents streams.new.output) }
+{
     let mut state = [0u8; Router::STATE];
     let mut memory = [0u8; Router::MEMORY];
     let mut arrivals = [0u8; Router::ARRIVALS];
@@ -360,4 +382,5 @@ pub fn print<I: Read, O: Write, E: Write>(
     if end.more {
         say(streams, name, b"reading stopped after 2^48 reads\n");
     }
+    end.input.reading.ended & end.printed.written
 }

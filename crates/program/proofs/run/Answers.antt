@@ -1,6 +1,6 @@
 -- `run` meets its contract: before the first turn nothing has come in, and a turn more is a read more in what is reached.
 use borrow.Author.Tests.{ltb-true}
-use Rattle.std.proofs.Common.{ℕ, ◌+◌, ◌*◌, ◌≤◌, ◌<◌, ◌≡◌, true, List, ◌++◌, length, take, drop, refl, sym, ap, ◌∙◌, arith}
+use Rattle.std.proofs.Common.{ℕ, ◌+◌, ◌*◌, ◌≤◌, ◌<◌, ◌≡◌, true, false, true≢false, List, ◌++◌, length, take, drop, refl, sym, ap, ◌∙◌, arith}
 use Rattle.std.proofs.lemmas.List.{length-take, length-drop}
 use Rattle.rules.proofs.Booleans.{and_left, and_right, not-false}
 use Rattle.records.specs.Records.{record_length}
@@ -10,8 +10,13 @@ use Rattle.tapes.specs.Blocks.{Place, begin, turned, with_end, Between, unread, 
 use Rattle.tapes.proofs.Blocks.{Passed, passed_none, passed_on, reached_then}
 use Rattle.program.specs.declared.Held.{Held}
 use Rattle.program.specs.declared.TurnEnd.{TurnEnd}
-use Rattle.program.specs.Turns.{bytes_of, brought, Divided, is_going_on}
+use Rattle.program.specs.Turns.{bytes_of, brought, Divided, between_of, is_going_on}
+use Rattle.program.proofs.Streamed.{streamed_none, streamed_then, streamed_end}
 use Rattle.program.proofs.run.Goals as goal
+
+-- Where there is more to do, the input has not ended and all was written.
+going_on : (t : TurnEnd) → is_going_on t ≡ true → (t.input.reading.ended ≡ false) × (t.printed.written ≡ true)
+going_on t more = (not-false _ (and_left _ _ (and_left _ _ more)), and_right _ _ more)
 
 -- After a turn: what is left is reached by one read more; if there is more to do, the input has not ended, and the place has at most 1,024 records more.
 module _ (style : Style) (t : TurnEnd) (h : Held) (b q : Between) (block l : List ℕ) (reads bytes : ℕ) (passed : Passed style reads bytes b)
@@ -33,7 +38,7 @@ module _ (style : Style) (t : TurnEnd) (h : Held) (b q : Between) (block l : Lis
       let r = reached_then passed t.input.reading.ended read (take t.input.reading.filled block) q joined (ap (λ (o : Turn). o.left) e) in
       let n = to_take t.input.reading.ended (length (b.held ++ read)) in
       rw (← counted)
-      (r, (λ more. passed_on r (not-false _ (and_left _ _ (and_left _ _ (sym goes_on ∙ more))))), omega (arith, ap (λ (o : Turn). o.left.place.number) e, length-take n (b.held ++ read), ap length joined, length-take t.input.reading.filled block, full))
+      (r, (λ more. passed_on r (going_on t (sym goes_on ∙ more)).0), omega (arith, ap (λ (o : Turn). o.left.place.number) e, length-take n (b.held ++ read), ap length joined, length-take t.input.reading.filled block, full))
 
 -- Before the first turn.
 module _ (p : Place) (e : p ≡ begin) where
@@ -48,6 +53,7 @@ loop-end-init g c =
     let u = c.unread-end.ensures in
     let e = rw (← u.0) at c.begin-place.ensures in
     let b = begun _ e c.unread-end.result.input.held u.1 in
+    let going = going_on c.unread-end.result (sym u.4 ∙ u.3) in
     record {
       within = omega arith;
       few = omega arith;
@@ -58,6 +64,8 @@ loop-end-init g c =
       reached = λ some. absurd (omega arith);
       passed = λ more. passed_none _ _ b;
       places = λ more. omega (arith, ap (λ (r : Between). r.place.number) b);
+      streamed = λ more. streamed_none c.args.style (g.I.Read.remaining c.args.streams.now.input) (g.O.Write.contents c.args.streams.now.output) _ b;
+      printed = λ ended written. absurd (true≢false (sym ended ∙ going.0));
     }
 
 pub loop-end-preserved : goal.loop-end-preserved
@@ -70,6 +78,12 @@ loop-end-preserved g c =
     let below : s.reads < 281474976710656 = ltb-true s.reads _ (and_right s.end.more _ c.loop-end-test.true) in
     let full : length t.new.block ≡ 1024 * record_length = omega arith in
     let most : t.result.input.reading.count ≤ 1024 * record_length = omega (arith, full, d.0.0, d.0.1) in
+    let ended = t.result.input.reading.ended in
+    let read = brought s.end.input.held t.result.input.reading t.new.block in
+    let text = take t.result.printed.length t.new.lines in
+    let left = between_of t.new.state t.new.memory t.new.arrivals t.result.printed.place t.result.input.held in
+    let next = g.I.Read.remaining t.new.streams.input in
+    let out = g.O.Write.contents t.new.streams.output in
     let after = after_turn _ t.result s.end.input.held _ _ t.new.block _ s.reads s.bytes (i.passed more) t.ensures.block_after t.ensures.fact full d.0 t.ensures.more_value in
     record {
       within = omega arith;
@@ -81,4 +95,8 @@ loop-end-preserved g c =
       reached = λ some. after.0;
       passed = after.1;
       places = λ _. omega (arith, i.places more, after.2);
+      streamed = λ again.
+          let going = going_on t.result (sym t.ensures.more_value ∙ again) in
+          streamed_then (i.streamed more) ended read text left next out going.0 t.ensures.fact t.ensures.consumed (t.ensures.written going.1);
+      printed = λ last written. streamed_end (i.streamed more) ended read text left next out last t.ensures.fact t.ensures.consumed (t.ensures.at_end last) (t.ensures.written written);
     }
