@@ -14,7 +14,7 @@ use borrow.Author.Tests.{eq-eqb, ne_eqb, ltb-true, leb-true}
 use Rattle.rules.specs.Clock.{cut, plus, offset}
 use Rattle.rules.specs.Areas.{Store, Outcome, number_reply, Bytes, byte, bits, stamp, fits, packet, has, without, Grant, nobody, best_effort, on_time, early, grant_code}
 use Rattle.rules.specs.Board.{Board, Kind, Field, Clock, Horizon, Latch, Free, Idle, Time, Deadline, Mask, Outgoing, Delay, Routes, clock, free, board8}
-use Rattle.rules.specs.Calls.{control, tick, refusal}
+use Rattle.rules.specs.Calls.{control, refusal}
 use Rattle.rules.specs.Given.{number_due}
 use Rattle.rules.specs.Demand3.{byte_step}
 use Rattle.rules.specs.Order.{Key, comparator, least}

@@ -10,9 +10,9 @@ use lib.Seq.{ext_get_or}
 use lib.Dec.{T}
 use lib.IntN.{ℤ, pos, ◌+ℤ◌, ◌-ℤ◌}
 use lib.Signed.{le_z}
-use Rattle.rules.specs.Account.{PacketAt, Kept, stored}
+use Rattle.rules.specs.Account.{PacketAt, Kept}
 use Rattle.rules.specs.Areas.{Store, Bytes, byte, bits, half, packet, stamp, payload, packed, elem, distinct}
-use Rattle.rules.specs.Board.{Board, Idle, clock, free}
+use Rattle.rules.specs.Board.{Board, Idle, free}
 use Rattle.rules.specs.Clock.{cut, minus, offset}
 use Rattle.rules.specs.Demand3.{PacketShown, PlaceShown}
 use Rattle.any_state.specs.Entries.{delay_of, offset_of}

@@ -1,4 +1,6 @@
 // Step 1 of a tick: arrivals, port 0 first.
+#![tactic(auto)]
+
 ghost use Rattle.std.specs.Prelude.{◌≡◌, ◌∷◌, [], ◌*◌, ◌<◌, length};
 ghost use Rattle.std.proofs.lemmas.List.Edits.{sets};
 ghost use Rattle.rules.specs.Areas.{packet_length, memory_length, arrivals_length, payload, packed, per_port};

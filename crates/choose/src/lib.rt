@@ -1,4 +1,6 @@
 // Step 2 of a tick: one pass over the slots finds the winners of the five ports.
+#![tactic(auto)]
+
 ghost use Rattle.std.specs.Prelude.{◌≡◌, cond, suc, ◌+◌, ◌*◌, ◌<◌, length};
 ghost use Rattle.rules.specs.Areas.{nobody, best_effort};
 ghost use Rattle.rules.specs.Board.{clock, board8};
@@ -18,7 +20,7 @@ const EARLY: u32 = 16777216;
 const NONE: u32 = 33554432;
 
 // Who has a port.
-#[derive(Drop)]
+#[derive(Clone, Copy)]
 pub enum Grant {
     Nobody,
     BestEffort,

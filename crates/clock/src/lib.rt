@@ -1,4 +1,6 @@
 // Clock readings: sums and differences that turn over at 256, whether a time is in time, and a packet's key from the cases of Fig. 7 of document 001.
+#![tactic(auto)]
+
 ghost use Rattle.std.specs.Prelude.{◌≡◌, true, pos, neg_ℤ, int_le};
 ghost use Rattle.rules.specs.Clock.{plus, minus, offset};
 ghost use Rattle.rules.specs.Areas.{bits};

@@ -1,4 +1,6 @@
 // Control writes: the control latch, the two commits, and which value fits a register.
+#![tactic(auto)]
+
 ghost use Rattle.std.specs.Prelude.{◌≡◌, ◌≤◌};
 ghost use Rattle.rules.specs.Areas.{fits, latch_place};
 ghost use Rattle.rules.specs.Board.{Latch as LatchField, board8};
@@ -8,7 +10,7 @@ ghost use Rattle.control.specs.Latches.{latch_of, latch_with, latch_byte};
 use layout::{ConnectionId, Field, Router};
 
 // The control latch: the bytes last written to registers 0, 1, 2 and 4, which wait for a commit.
-#[derive(Drop)]
+#[derive(Clone, Copy)]
 pub struct Latch {
     pub outgoing: u8,
     pub delay: u8,

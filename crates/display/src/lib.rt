@@ -1,4 +1,6 @@
 // The display part: the 18 data bytes of a port in the outgoing area.
+#![tactic(auto)]
+
 ghost use Rattle.std.specs.Prelude.{◌≡◌, ◌&&◌, ◌+◌, ◌*◌, leb, eqb, length, take, drop};
 ghost use Rattle.rules.specs.Areas.{outgoing_length};
 ghost use Rattle.display.specs.Display.{display, display_start};

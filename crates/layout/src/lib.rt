@@ -1,4 +1,6 @@
 // The layout of what the router is lent: its sizes, the numbers of refusals, the fields of the state, a port's bit, and a copy.
+#![tactic(auto)]
+
 ghost use Rattle.std.specs.Prelude.{◌≡◌, ◌+◌, ◌*◌, ◌≤◌, ◌<◌, length, get_or, set, replicate};
 ghost use Rattle.std.proofs.lemmas.List.Edits.{sets};
 ghost use Rattle.rules.specs.Areas.{has};
@@ -8,17 +10,17 @@ ghost use Rattle.layout.specs.Numbers.{number_of};
 ghost use Rattle.layout.specs.Slots.{empty};
 
 // One byte each, and none may serve as another.
-#[derive(Drop)]
+#[derive(Clone, Copy)]
 pub struct SlotAddress(pub u8);
 
-#[derive(Drop)]
+#[derive(Clone, Copy)]
 pub struct ConnectionId(pub u8);
 
-#[derive(Drop)]
+#[derive(Clone, Copy)]
 pub struct ClockReading(pub u8);
 
 // A slot's three bytes: logical arrival time, deadline, mask of ports still to serve.
-#[derive(Drop)]
+#[derive(Clone, Copy)]
 pub struct Slot(pub [u8; 3]);
 
 // A router before it is copied to the lent area: the bytes of its state, and its slots.

@@ -1,4 +1,5 @@
 // Pages of a tape, printed into a lent area as the ticks come: each function gives the place after its text.
+#![tactic(auto)]
 ghost use Rattle.std.specs.Prelude.{◌≡◌, List, [], ◌∷◌, ◌++◌, ℕ, ◌+◌, ◌*◌, ◌≤◌, ◌<◌, length, replicate};
 ghost use Rattle.events.specs.Values.{event_of};
 ghost use Rattle.text.specs.Put.{Put};

@@ -12,7 +12,7 @@ use lib.Dec.{ltb, eqb}
 use borrow.Author.Tests.{eq-eqb, ne_eqb, lt-ltb, le-ltb}
 use Rattle.rules.specs.Order.{count, counted, top_first}
 use Rattle.rules.specs.Areas.{Store, byte, has, elem}
-use Rattle.rules.specs.Board.{Board, Idle, Mask, clock, free}
+use Rattle.rules.specs.Board.{Board, Idle, Mask, free}
 use Rattle.rules.specs.Tick.{arrived, is_early, slot_key}
 use Rattle.rules.specs.Whole.{Router}
 use Rattle.rules.proofs.BoardLaws.{Laws}

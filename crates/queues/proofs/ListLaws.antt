@@ -162,7 +162,7 @@ module _ {less : Order ℕ} (S : Strict less) where
   pub length-lists : {test : ℕ → Bool} {l : List ℕ} → Lists less test l → ((i : ℕ) → test i ≡ true → i < 256) → length l ≡ count 256 test
   length-lists {test} {l = []} L small = sym (count_none test 256 (λ i h. none_passes L i))
   length-lists {test} {l = i ∷ l} L small =
-      let a = length-lists {l = l} (lists-rest L) (λ j e. small j (and_left (test j) (not (eqb j i)) e)) in
+      let a = length-lists {test = λ j. test j && not (eqb j i)} {l = l} (lists-rest L) (λ j e. small j (and_left (test j) (not (eqb j i)) e)) in
       let b = count-change (λ j. test j && not (eqb j i)) test i 256 (small i (first_slot L)) (λ j n. rw (ne_eqb j i n) (and-true (test j))) in
       let d : counted (test i) ≡ 1 = ap counted (first_slot L) ∙ counted-true in
       let e : counted (test i && not (eqb i i)) ≡ 0 = rw (eq-eqb i i refl, and-false (test i)) counted-false in
@@ -186,7 +186,7 @@ module _ {less : Order ℕ} (S : Strict less) where
   pub lists-dropped : {test f : ℕ → Bool} {l : List ℕ} → Lists less test l → Front less test f → Lists less (λ j. test j && not (f j)) (dropped f l)
   unfolding dropped
   lists-dropped {test} {f} {l = []} L front = lists-same L (λ j. rw (none_passes L j))
-  lists-dropped {test} {f} {l = i ∷ l} L front = go (f i) refl (lists-dropped {l = l} (lists-rest L) (front_rest i front))
+  lists-dropped {test} {f} {l = i ∷ l} L front = go (f i) refl (lists-dropped {test = λ j. test j && not (eqb j i)} {l = l} (lists-rest L) (front_rest i front))
     where
       go : (t : Bool) → f i ≡ t → Lists less (λ j. (test j && not (eqb j i)) && not (f j)) (dropped f l) → Lists less (λ j. test j && not (f j)) (cond t (dropped f l) (i ∷ l))
       go true e R = lists-same R (λ j. same j (ℕ_discrete j i))
@@ -237,7 +237,7 @@ module _ {less : Order ℕ} (S : Strict less) (total : Total less) where
   unfolding moved
   lists-moved S' {test} {test'} {f} {k = []} {l} K L apart front = lists-same L (λ j. rw (none_passes K j) (sym (or-false (test' j))))
   lists-moved S' {test} {test'} {f} {k = i ∷ k} {l} K L apart front =
-      go (f i) refl (lists-moved S' {k = k} (lists-rest S' K) (lists-place L i (apart i (first_slot K))) (λ j. apart-rest (test j) (eqb j i) (test' j) (apart j)) (front_rest S' i front))
+      go (f i) refl (lists-moved S' {test = λ j. test j && not (eqb j i)} {test' = λ j. test' j || eqb j i} {k = k} {l = place less i l} (lists-rest S' K) (lists-place L i (apart i (first_slot K))) (λ j. apart-rest (test j) (eqb j i) (test' j) (apart j)) (front_rest S' i front))
     where
       apart-rest : (a b d : Bool) → (a ≡ true → d ≡ false) → (a && not b) ≡ true → (d || b) ≡ false
       apart-rest true false d n e = or-false d ∙ n refl

@@ -22,7 +22,7 @@ use Rattle.rules.proofs.BoardLaws.{Laws}
 use Rattle.rules.proofs.Booleans.{true→T, T→true, and_left, and_right, and_both, not-false}
 use Rattle.rules.proofs.Comparator.{shown_key, comparator-less-clock, comparator-still, slot-key}
 use Rattle.rules.proofs.Grants.{first-no-later, not-before}
-use Rattle.rules.proofs.Good.{InWindow, HeldInWindow, Good, Input, window_more, after, serving, ended-frame, clock-at, window-then, tick-good}
+use Rattle.rules.proofs.Good.{InWindow, HeldInWindow, Good, Input, window_more, serving, ended-frame, clock-at, window-then, tick-good}
 use Rattle.rules.proofs.Integers.{orders, add-nat, suc-nat, not-lt}
 use Rattle.rules.proofs.Masks.{has-zero}
 use Rattle.rules.proofs.OrderLaws.{fails, strict-comparator}

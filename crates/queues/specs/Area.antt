@@ -1,6 +1,6 @@
 -- The queues area, 2,580 bytes: for each port its on-time queue, then its early one, each of 258 bytes: how many slots are in it, high byte first, then 256 entries.
 -- As on the idle-address stack, the first of n is entry n - 1, and what stands from entry n on is no part of the queue. Assumes nothing.
-use Rattle.std.specs.Prelude.{ℕ, zero, suc, ◌+◌, ◌-◌, ◌*◌, ◌/◌, ◌%◌, Bool, cond, List, take, drop, set, ltb}
+use Rattle.std.specs.Prelude.{ℕ, zero, suc, ◌+◌, ◌*◌, ◌/◌, ◌%◌, Bool, cond, List, take, drop, set, ltb}
 use Rattle.std.proofs.lemmas.List.Edits.{sets}
 use Rattle.rules.specs.Order.{Order, counted, top_first}
 use Rattle.rules.specs.Areas.{byte}

@@ -1,4 +1,6 @@
 // A tape's records: where each ends, their kinds, and questions 9 to 12.
+#![tactic(auto)]
+
 ghost use Rattle.std.specs.Prelude.{◌≡◌, ◌-◌, ◌≤◌, length, take, drop};
 ghost use Rattle.records.specs.Records.{record_length, blank_part, unused_refusal, arrival_refusal, record_refusal, number_of};
 

@@ -1,4 +1,5 @@
 // The router's entries: what the board firmware and the display software call.
+#![tactic(auto)]
 ghost use Rattle.std.specs.Prelude.{◌≡◌, take, drop};
 ghost use Rattle.rules.specs.Areas.{number_reply, Outcome, Store};
 ghost use Rattle.rules.specs.Board.{board8};

@@ -11,7 +11,7 @@ use lib.IntN.{ℤ, pos, neg_ℤ, suc_ℤ, ◌+ℤ◌, ◌-ℤ◌}
 use lib.Signed.{le_z, lt_z}
 use borrow.Author.Tests.{eqb-false}
 use Rattle.rules.specs.Account.{Kept}
-use Rattle.rules.specs.Areas.{byte, bits, half, stamp, packet, payload, has, Grant}
+use Rattle.rules.specs.Areas.{byte, bits, half, stamp, packet, has, Grant}
 use Rattle.rules.specs.Clock.{cut}
 use Rattle.rules.specs.Whole.{Packet, Held, Entry, Router, TickCall, with_places, advanced, accepted, grant, lose, served, is_due, emptied, meets, arrived, is_held}
 use Rattle.rules.proofs.Booleans.{some_inj}

@@ -1,5 +1,5 @@
 -- Step 1: the arrivals meet the same in both routers, since an offset is the whole-number difference while that is in the signed range, and the top idle address is the first free place. Assumes nothing.
-use Prim.Native.Nat.{ℕ, zero, suc, ◌+◌, ◌-◌, ◌*◌, ◌<◌, ◌≤◌}
+use Prim.Native.Nat.{ℕ, zero, suc, ◌-◌, ◌*◌, ◌<◌, ◌≤◌}
 use mathlib.Core.Path.{◌≡◌, refl, sym, ap, ap₂, subst, ◌∙◌}
 use mathlib.Core.Bool.{Bool, true, false, cond}
 use mathlib.Core.List.{List, [], ◌∷◌}
@@ -147,7 +147,7 @@ module _ (B : Board) (L : Laws B) where
       stored-rel : Rel B L r' (with_places w (Whole.put w.place j (some new)) l)
       unfolding stack
       stored-rel = record {
-        settings = settings-places B L (Whole.put w.place j (some new)) l (reads-off B L (reads-off B L (reads-off B L (reads-off B L R.settings free N (omega arith) refl) (Time, j) (stamp c k) hj refl) (Deadline, j) D hj refl) (Mask, j) (get s (Routes, i)) hj refl);
+        settings = settings-places B L w (Whole.put w.place j (some new)) l (reads-off B L (reads-off B L (reads-off B L (reads-off B L R.settings free N (omega arith) refl) (Time, j) (stamp c k) hj refl) (Deadline, j) D hj refl) (Mask, j) (get s (Routes, i)) hj refl);
         whole = length-sets r.memory (20 * j) bytes ∙ R.whole;
         place = shows-put B L R j (some new) new-here others;
         stack =

@@ -11,7 +11,7 @@ use lib.Dec.{eqb}
 use lib.IntN.{ℤ}
 use borrow.Author.Tests.{eq-eqb, ne_eqb, eqb-true, lt-ltb, le-ltb}
 use Rattle.rules.specs.Account.{stored, Kept}
-use Rattle.rules.specs.Areas.{half, packet, has, Store}
+use Rattle.rules.specs.Areas.{half, has, Store}
 use Rattle.rules.specs.Board.{Board, Kind, Free, Idle, Time, Deadline, Mask, Field, clock, free}
 use Rattle.rules.specs.Order.{count, counted, top_first}
 use Rattle.rules.specs.Questions.{stack}
@@ -228,7 +228,7 @@ module _ (B : Board) (L : Laws B) where
     ended-rel =
         let P = backs 256 (omega arith) in
         record {
-          settings = subst (SettingsShown B L (back 256)) (sym (emptied-frame t 256 w)) (settings-places B L (e 256).place (e 256).free P.settings);
+          settings = subst (SettingsShown B L (back 256)) (sym (emptied-frame t 256 w)) (settings-places B L w (e 256).place (e 256).free P.settings);
           whole = R.whole;
           place = λ i l. subst (SlotShows B L (with-state B L r (back 256)) i) (sym (emptied-place t w i l)) (ended_here i l);
           stack = P.stacked;

@@ -135,7 +135,7 @@ module _ (B : Board) (L : Laws B) where
       -- Slot i alone changes, and no setting.
       lose-rel : Rel B L r' (with_places w (Whole.put w.place i (lose p (w.place i))) w.free)
       lose-rel = record {
-        settings = settings-places B L (Whole.put w.place i (lose p (w.place i))) w.free (reads-off B L R.settings (Mask, i) m hi refl);
+        settings = settings-places B L w (Whole.put w.place i (lose p (w.place i))) w.free (reads-off B L R.settings (Mask, i) m hi refl);
         whole = R.whole;
         place = shows-put B L R i (lose p (w.place i)) (lose-here (w.place i) (R.place i hi)) (λ q hq n.
             record { time = stores.reads (Time, q) refl hq; deadline = stores.reads (Deadline, q) refl hq; mask = stores.reads (Mask, q) refl hq ∙ rw (ne_eqb i q (λ e. n (sym e))); bytes = refl });

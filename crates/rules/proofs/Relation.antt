@@ -89,8 +89,8 @@ module _ (B : Board) (L : Laws B) where
   SettingsShown s w = Reads B L inner s (shown c w)
 
   -- Places and free list are no settings.
-  pub settings-places : {s : List ℕ} {w : Router} (f : ℕ → Option Held) (l : List ℕ) → SettingsShown s w → SettingsShown s (with_places w f l)
-  settings-places {s} {w} f l S = reads_as B L S (on-settings (shown c w) (shown c (with_places w f l)) refl (λ p h. refl) (λ q h. refl) (λ i h. (refl, refl, refl)))
+  pub settings-places : {s : List ℕ} (w : Router) (f : ℕ → Option Held) (l : List ℕ) → SettingsShown s w → SettingsShown s (with_places w f l)
+  settings-places {s} w f l S = reads_as B L S (on-settings (shown c w) (shown c (with_places w f l)) refl (λ p h. refl) (λ q h. refl) (λ i h. (refl, refl, refl)))
 
   -- ---- places
 

@@ -11,8 +11,8 @@ use lib.Dec.{T, eqb}
 use lib.IntN.{ℤ, suc_ℤ, pos, ◌-ℤ◌}
 use lib.Signed.{le_z, lt_z, ◌≤ℤ◌}
 use borrow.Author.Tests.{ne_eqb}
-use Rattle.rules.specs.Account.{NotedTick, is_sent, times, is_left, left_on, sent_on, withdrawn_on, Accepted, Unserved, NoneOnTime, NoLater, Prompt, stored, Stored, GivenBack, Accounts}
-use Rattle.rules.specs.Areas.{has, best_effort, on_time, early}
+use Rattle.rules.specs.Account.{NotedTick, is_sent, times, is_left, left_on, sent_on, withdrawn_on, Accepted, Unserved, NoneOnTime, NoLater, Prompt, Stored, GivenBack, Accounts}
+use Rattle.rules.specs.Areas.{has, best_effort, on_time}
 use Rattle.rules.specs.Order.{counted, top_first}
 use Rattle.rules.specs.Whole.{Packet, Router, to_serve, meets}
 use Rattle.rules.proofs.Booleans.{true→T}

@@ -9,7 +9,7 @@ use lib.Dec.{eqb, eqb→eq}
 use lib.IntN.{pos, ◌+ℤ◌}
 use lib.Signed.{le_z}
 use borrow.Author.Tests.{eq-eqb}
-use Rattle.rules.specs.Account.{NotedTick, times, stored_below, entry_met, answer_due, Made, Taken, Told, stored, GivenBack, free_before}
+use Rattle.rules.specs.Account.{NotedTick, stored_below, entry_met, answer_due, Made, Taken, Told, stored, GivenBack, free_before}
 use Rattle.rules.specs.Given.{last_entry}
 use Rattle.rules.specs.Areas.{byte, packet, has, grant_code, on_time, early, asked, arrival_questions, arrival_answer}
 use Rattle.rules.specs.Order.{count}

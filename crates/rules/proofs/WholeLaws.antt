@@ -13,7 +13,7 @@ use lib.IntN.{ℤ, pos, ◌+ℤ◌}
 use lib.Signed.{le_z}
 use borrow.Author.Tests.{eq-eqb, ne_eqb, eqb-true, eqb-false, lt-ltb, le-ltb}
 use Rattle.rules.specs.Account.{stored, Kept, Falling}
-use Rattle.rules.specs.Areas.{byte, packet, has, without, elem, distinct, Grant, nobody, best_effort, on_time, early, asked, arrival_questions, arrival_answer}
+use Rattle.rules.specs.Areas.{byte, has, without, elem, distinct, Grant, nobody, best_effort, on_time, early, asked, arrival_questions, arrival_answer}
 use Rattle.rules.specs.Order.{count, counted}
 use Rattle.rules.specs.Whole.{Packet, Held, Router, with_places, put, Arrival, absent, refused, accepted, placed, admitted, lose, sent, is_due, remaining, emptied, arrival_refusal, made, arrival, arrival_code, is_held}
 use Rattle.rules.proofs.Booleans.{true→T, asked-passed, some_inj, none-some, and_left, and_right, or_right, not-false}

@@ -1,4 +1,5 @@
 // What the service bench calls: the entry that names a fault, and those of the queue engine.
+#![tactic(auto)]
 ghost use Rattle.std.specs.Prelude.{◌≡◌};
 ghost use Rattle.rules.specs.Areas.{number_reply, Outcome};
 ghost use Rattle.rules.specs.Board.{board8};

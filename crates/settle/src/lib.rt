@@ -1,4 +1,6 @@
 // Steps 3 to 5 of a tick in one pass over the slots.
+#![tactic(auto)]
+
 ghost use Rattle.std.specs.Prelude.{◌≡◌, ℕ, ◌+◌, ◌<◌, ◌≤◌, length, get_or};
 ghost use Rattle.rules.specs.Board.{Mask, free, board8};
 ghost use Rattle.rules.specs.Tick.{give_back};

@@ -1,4 +1,6 @@
 // Questions 13 to 15: is the state sound, and if not, which part is bad? One pass each over connections, horizons, stack and slots.
+#![tactic(auto)]
+
 ghost use Rattle.std.specs.Prelude.{◌≡◌, false, not, ◌&&◌, [], ◌∷◌, ℕ, ◌≤◌, ◌<◌, eqb, pos, neg_ℤ, length, get_or, replicate};
 ghost use Rattle.std.specs.Bool.{beq};
 ghost use Rattle.std.specs.Int.Signed.{le_z};

@@ -1,4 +1,6 @@
 // The lines of a tape as text, printed into a lent area: each function gives the place after its text.
+#![tactic(auto)]
+
 ghost use Rattle.std.specs.Prelude.{◌≡◌, [], ◌∷◌, cond, max, ◌+◌, ◌≤◌, ◌<◌, eqb, length, replicate};
 ghost use Rattle.rules.specs.Areas.{per_port};
 ghost use Rattle.text.specs.Lines.{decimal, digits_of, hex, field, refused_line, withdrawn, port_field, withdrawn_sum, tick_text, tick_line};

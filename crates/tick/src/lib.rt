@@ -1,4 +1,5 @@
 // The six steps of a tick, and its answers.
+#![tactic(auto)]
 ghost use Rattle.std.specs.Prelude.{◌≡◌, ◌/◌, ◌%◌, length, [], ◌∷◌};
 ghost use Rattle.rules.specs.Areas.{byte, per_port, answers_length, answers_area, Outcome, Store};
 ghost use Rattle.rules.specs.Board.{board8};

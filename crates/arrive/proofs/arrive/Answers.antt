@@ -1,0 +1,13 @@
+-- `arrive::arrive` meets its contract. The loop's invariant: the store and the answers are those of the ports below p. The measure is the ports left. Assumes nothing.
+use Prim.Native.Nat.{◌-◌}
+use mathlib.Core.Path.{◌∙◌}
+use Rattle.passes.proofs.Arrivals.{arrived-none, arrived-next}
+use Rattle.passes.proofs.Packets.{part-packet}
+use Rattle.arrive.proofs.arrive.Goals as goal
+
+pub loop-p-init : goal.loop-p-init
+loop-p-init c = arrived-none _ _ _ _
+
+pub loop-p-preserved : goal.loop-p-preserved
+loop-p-preserved c = arrived-next _ _ _ _ c.loop-p.invariant c.loop-p-test.true (part-packet c.args.arrivals.now c.loop-p.p) (c.number.ensures ∙ c.admit-met.ensures.number) c.admit-met.ensures.after
+    c.admit-met.auto.state c.admit-met.auto.memory.0 c.admit-met.ensures.room

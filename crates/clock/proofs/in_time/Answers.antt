@@ -1,0 +1,13 @@
+-- `clock::in_time` meets its contract: an offset of at least -d is a difference below 128, or one that d more makes a turn. Assumes nothing.
+use Rattle.rules.proofs.Offsets.{offset-at-least}
+use Rattle.rules.specs.Areas.{half, bits}
+use Rattle.std.proofs.Common.{le-ltb, lt-ltb}
+use Rattle.clock.proofs.in_time.Goals as goal
+
+pub returns-then-x-lt-HALF : goal.returns-then-x-lt-HALF
+unfolding half bits
+returns-then-x-lt-HALF c = rw (offset-at-least 1 _ _ _ c.since-x.ensures, lt-ltb _ 128 c.if-x-lt-HALF.true)
+
+pub returns : goal.returns
+unfolding half bits
+returns c = rw (offset-at-least 1 _ _ _ c.since-x.ensures, le-ltb _ _ c.if-x-lt-HALF.false)
