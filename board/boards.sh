@@ -1,8 +1,7 @@
 # boards.sh - the boards that the scripts here know, and how a program for one is built. To be read by `.` where `here`
 # is this folder and `build` one to build in.
 top=$here/..
-kit=${RATTLE_HOME:-$(dirname "$(dirname "$(readlink -f "$(command -v rt)")")")}
-tools=$kit/on/$(uname -m)/toolchain/bin
+. "$top/host/kit.sh"
 boards="cortex-m4 cortex-m0plus riscv32 aarch64 armeb"
 mps2="qemu-system-arm -nographic -monitor none -serial none -semihosting-config enable=on,target=native"
 

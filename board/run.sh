@@ -1,9 +1,10 @@
 #!/bin/sh
 # run.sh - compares the archives for each board with the plain C, call by call on the board's own instruction set, under
-# an emulator; sees that the archives for x86-64 are those of `rt staticlib`, and that host/archive-for.sh refuses what it
-# doesn't know.
+# an emulator; sees that the archives for x86-64 are those of the kit, and that host/archive-for.sh refuses what it doesn't
+# know.
 # usage: run.sh [BOARD..]   (all of boards.sh where none is named)
-# Needs gcc's headers, qemu-system-arm and qemu's user mode. Has `rt staticlib` write both archives for x86-64 anew.
+# Needs gcc's headers, qemu-system-arm and qemu's user mode. host/build.sh first writes both archives for x86-64 anew;
+# BUILT=yes: as it wrote them before.
 # Ends with a line "board: N passed, M failed"; nonzero exit on any failure.
 set -u
 here=$(cd "$(dirname "$0")" && pwd)
@@ -16,9 +17,10 @@ archive_for() {
     sh "$top/host/archive-for.sh" "$@"
 }
 
-# of_kit CRATE: keeps the crate's module; what is compiled of it for x86-64 is what the kit compiled.
+# of_kit CRATE: what is compiled of the crate's module for x86-64 is what the kit compiled.
 of_kit() {
-    archive_for $x86 "$1" "$build/lib$1.a" && cmp "$build/lib$1.a" "$top/target/staticlib/lib$1.a"
+    MODULE=$top/target/module/$1.bc archive_for $x86 "$1" "$build/lib$1.a" &&
+        cmp "$build/lib$1.a" "$top/target/staticlib/lib$1.a"
 }
 
 # refused WORDS COMMAND..: the command fails and says these words on standard error.
@@ -58,6 +60,7 @@ refusals() {
     step "refused: a global" strange '^target triple' '@strange = global i8 0'
     step "refused: a function from elsewhere" strange '^target triple' 'declare void @strange()'
     step "refused: a number of 128 bits" strange '^start:' '  %strange = alloca i128, align 16'
+    step "refused: a structure" strange '^start:' '  %strange = alloca { i8, i64 }, align 8'
     step "refused: a load that is volatile" strange '%r0 = alloca i8' '  %strange = load volatile i8, ptr %r0, align 1'
     step "refused: a copy of a length that is no number" changed ', i64 16, i1 false' ', i64 %a1, i1 false'
     step "refused: an attribute" changed '{ nounwind "probe-stack"' '{ alwaysinline nounwind "probe-stack"'
@@ -68,9 +71,13 @@ refusals() {
     step "refused: a target without a back end" refused "can't compile for" archive_for sparc-none-elf
     step "refused: no such processor" refused "has no target" archive_for -mcpu=cortex-m99 thumbv7em-none-eabi
     step "refused: no such crate" refused "usage" archive_for $x86 tape
-    step "refused: no kit" refused "there is no rt" env PATH="$build" /bin/sh "$top/host/archive-for.sh" $x86
+    mkdir "$build/tools"
+    ln -s "$(command -v dirname)" "$build/tools/dirname"
+    step "refused: no kit" refused "there is no rt" env PATH="$build/tools" /bin/sh "$top/host/archive-for.sh" $x86
+    printf '#!/bin/sh\necho "%s/START-HERE.md"\n' "$build" > "$build/tools/rt"
+    chmod +x "$build/tools/rt"
     step "refused: a kit that is none" refused "there is no Rattle kit" \
-        env RATTLE_HOME="$build" sh "$top/host/archive-for.sh" $x86
+        env PATH="$build/tools:$PATH" sh "$top/host/archive-for.sh" $x86
     step "refused: no module" refused "there is no module" env MODULE="$build/none" sh "$top/host/archive-for.sh" $x86
 }
 
@@ -115,8 +122,9 @@ test_on() {
     step "$what: test ran to its end" test $status -eq 0
 }
 
+[ "${BUILT:-}" = yes ] || step "host/build.sh" sh "$top/host/build.sh" router service
 for crate in router service; do
-    step "x86-64: lib$crate.a is that of rt staticlib" of_kit $crate
+    step "x86-64: lib$crate.a is that of the kit" of_kit $crate
 done
 MODULE=$top/target/module/router.bc
 export MODULE

@@ -3,11 +3,11 @@
 # usage: archive-for.sh [-mcpu=CPU] [-O2|-O3] TRIPLE [router|service] [OUT]
 #   sh host/archive-for.sh -mcpu=cortex-m4 thumbv7em-none-eabi router librouter.a
 # TRIPLE: as clang takes it. OUT: else target/board/TRIPLE/libCRATE.a. -O3 is what the kit takes for x86-64.
-# The kit proves the crate, makes one LLVM module of it, and has its clang compile that for x86-64. This script keeps the
-# module, refuses it if one line is not of a known form, changes what in it is of x86-64, and has the same clang compile
-# it for the target. The entries are include/router.h's, as a C compiler for the target reads it. For x86-64 the archive
-# is that of `rt staticlib`. No proof covers this script; the tests of board/ do.
-# MODULE: a module to take in the place of the kit's, such as target/module/CRATE.bc, where this script keeps the last.
+# The kit proves the crate router_c or service_c, makes one LLVM module of it, and has its clang compile that for x86-64.
+# This script takes the module, refuses it if one line is not of a known form, changes what in it is of x86-64, and has the
+# same clang compile it for the target. The entries are include/router.h's, as a C compiler for the target reads it. For
+# x86-64 the archive is that of the kit. No proof covers this script; the tests of board/ do.
+# MODULE: a module to take, such as target/module/CRATE.bc, where build.sh keeps it; else build.sh makes it anew.
 set -eu
 die() {
     echo "archive-for.sh: $*" >&2
@@ -27,29 +27,18 @@ done
 [ $# -ge 1 ] && [ $# -le 3 ] || die "$usage"
 triple=$1 crate=${2:-router}
 case $crate in router | service) ;; *) die "$usage" ;; esac
-rt=$(command -v rt) || die "there is no rt: this needs the Rattle kit"
-top=$(cd "$(dirname "$0")/.." && pwd)
+here=$(cd "$(dirname "$0")" && pwd)
+. "$here/kit.sh"
+top=${here%/*}
 out=${3:-$top/target/board/$triple/lib$crate.a}
-kit=${RATTLE_HOME:-$(dirname "$(dirname "$(readlink -f "$rt")")")}
-bin=on/$(uname -m)/toolchain/bin
-clang=$kit/$bin/clang
-[ -x "$clang" ] || die "there is no Rattle kit for this machine at $kit"
+clang=$tools/clang
 room=$(mktemp -d)
 trap 'rm -rf "$room"' EXIT
 
-# 1. The module. It is kept by a kit of links to the kit, whose clang first copies what it is handed.
+# 1. The module.
 if [ -z "${MODULE:-}" ]; then
     MODULE=$top/target/module/$crate.bc
-    mkdir -p "$top/target/module"
-    rm -f "$MODULE"
-    cp -rs "$(readlink -f "$kit")" "$room/kit"
-    rm "$room/kit/$bin/clang"
-    printf '#!/bin/sh\n/bin/cp module.bc "%s" && exec "%s" "$@"\n' "$MODULE" "$clang" > "$room/kit/$bin/clang"
-    chmod +x "$room/kit/$bin/clang"
-    (cd "$top" && RATTLE_HOME=$room/kit "$rt" staticlib "$crate") > "$room/rt.out" 2>&1 || {
-        cat "$room/rt.out" >&2
-        die "$crate is not proved, or not built"
-    }
+    sh "$here/build.sh" "$crate" > "$room/said" || die "$crate is not proved, or not built"
 fi
 [ -s "$MODULE" ] || die "there is no module $MODULE"
 "$clang" --target=x86_64-unknown-linux-gnu --no-default-config -x ir "$MODULE" -S -emit-llvm -Xclang \
@@ -57,10 +46,10 @@ fi
 
 # 2. Its lines have these forms and no others. So there is no global, no assembler, no function of a processor or of
 # elsewhere, no number made of a pointer or pointer of a number, no offset but in bytes, no alignment that isn't written
-# down, no number wider than 64 bits, and no length of a copy but a number.
+# down, no number wider than 64 bits, no structure but of two bytes, and no length of a copy but a number.
 type='(ptr|i(1|8|16|32|64))' int='i(1|8|16|32|64)' reg='%[ar][0-9]+' label='%[a-z]+(\.[0-9]+)?' own='@"[A-Za-z0-9_:]+"'
 val="($reg|-?[0-9]+|true|false)" length='i64 [0-9]+, i1 false\)'
-take="$type noundef( zeroext)? %a[0-9]+" hand="$type $val"
+take="($type noundef( zeroext)?|i8) %a[0-9]+" hand="$type $val" pair='\{ i8, i8 \}'
 sed '/^#/d' > "$room/forms" <<END
 # around the functions
 ^\$|^;|^source_filename = "rattle"\$
@@ -68,22 +57,23 @@ sed '/^#/d' > "$room/forms" <<END
 ^declare void @llvm\.memmove\.p0\.p0\.i64\(ptr writeonly captures\(none\), ptr readonly captures\(none\), i64, i1 immarg\) #[1-9]\$
 ^declare void @llvm\.memset\.p0\.i64\(ptr writeonly captures\(none\), i8, i64, i1 immarg\) #[1-9]\$
 ^declare i8 @llvm\.cttz\.i8\(i8, i1 immarg\) #[1-9]\$
-^attributes #0 = \{ nounwind "probe-stack"="inline-asm" "target-cpu"="x86-64" \}\$
+^attributes #0 = \{ nounwind "probe-stack"="inline-asm" "stack-probe-size"="3072" "target-cpu"="x86-64" \}\$
 ^attributes #[1-9] = \{ nocallback nofree( nosync)? nounwind( speculatable)? willreturn memory\((none|argmem: (read)?write)\) \}\$
 ^!llvm\.ident = !\{!0\}\$|^!0 = !\{!"rattle logic=[0-9a-f]+"\}\$|^!1 = !\{\}\$|^!2 = !\{i8 0, i8 2\}\$
 # a function, which is the crates' own, or an entry
-^define internal (void|noundef( zeroext)? $int) $own\(($take(, $take)*)?\) #0 \{\$
+^define internal (void|noundef( zeroext)? $int|$pair) $own\(($take(, $take)*)?\) #0 \{\$
 ^define noundef $int @[a-z_]+\(($take(, $take)*)?\) #0 \{\$
 ^[a-z]+(\.[0-9]+)?:( +; .*)?\$|^}\$
 # its instructions
 ^  $reg = alloca ($type|\[[0-9]+ x i8\]), align [1248]\$
 ^  $reg = load $type, ptr $reg, align [1248](, !range !2)?(, !noundef !1)?\$
+^  $reg = load $pair, ptr $reg, align 1\$|^  $reg = extractvalue $pair $reg, [01]\$|^  ret $pair $reg\$
 ^  store $type $val, ptr $reg, align [1248]\$
 ^  $reg = getelementptr( inbounds nuw)? i8, ptr $reg, i64 $val\$
 ^  $reg = (add|sub|mul|udiv|urem|and|or|xor|shl|lshr)( nuw)? $int $val, $val\$
-^  $reg = icmp (eq|ne|u[lg][te]) $int $val, $val\$
+^  $reg = icmp (eq|ne|u[lg][te]) $int $val, $val\$|^  $reg = icmp eq ptr %a[0-9]+, null\$
 ^  $reg = (zext|trunc|trunc nuw) $int $val to $int\$
-^  ($reg = )?call (void|$int) $own\(($hand(, $hand)*)?\)\$
+^  ($reg = )?call (void|$int|$pair) $own\(($hand(, $hand)*)?\)\$
 ^  call void @llvm\.memmove\.p0\.p0\.i64\(ptr $reg, ptr $reg, $length\$
 ^  call void @llvm\.memset\.p0\.i64\(ptr $reg, i8 $val, $length\$
 ^  $reg = call i8 @llvm\.cttz\.i8\(i8 $val, i1 (true|false)\)\$
@@ -117,15 +107,17 @@ $compile -nostdinc -I"$room" -I"$top/include" -S -emit-llvm "$room/entries.c" -o
 # What is of x86-64 in the module is changed, and nothing else:
 # - The target's layout and name, for those of x86-64. Every offset and alignment is written down in bytes, with room of
 #   8 for a pointer, and no crate can read a byte in another width than it was written in, so that neither the layout nor
-#   the order of bytes matters.
-# - Two attributes of each function, the processor (-mcpu) and the probes of a stack that ends in a page to trap on.
+#   the order of bytes matters. Two bytes in a structure lie one behind the other in every layout.
+# - The attributes of each function but for x86-64: the processor (-mcpu), and the probes of a stack that ends in pages to
+#   trap on.
 # - The entries have the types that C's have, and extend a small result as C asks for it; of the upper bits of a small
 #   parameter nothing is taken for granted. Where size_t has 32 bits the lengths handed over are widened; the one
 #   returned is a length that was handed over, or below 100, and is cut. Inside, lengths, indices and sums have 64 bits as
 #   in the proof, so that what never overflows there never does here. An offset from a pointer is cut to the pointer's
 #   width: it lies in an area or an array, and none is that long.
 # - On 32 bits the fixed length of a copy is written as such a number.
-awk -v size="$size" '
+case $triple in x86_64-*linux*) same=yes ;; *) same=no ;; esac
+awk -v size="$size" -v same=$same '
     function fail(why) { print "archive-for.sh: " why ": " $0 > "/dev/stderr"; exit failed = 1 }
     function inside(line) { sub(/^[^(]*\(/, "", line); sub(/\)[^)]*$/, "", line); return line }
     function named(line) { sub(/^[^@]*@/, "", line); sub(/\(.*/, "", line); return line }
@@ -134,7 +126,7 @@ awk -v size="$size" '
     NR == FNR { next }
     /^target datalayout / { printf "%s", target; next }
     /^target triple / { next }
-    /^attributes #0 / { print "attributes #0 = { nounwind }"; next }
+    /^attributes #0 / && same == "no" { print "attributes #0 = { nounwind }"; next }
     /@llvm\.mem/ && size == 4 { sub(/\.i64\(/, ".i32("); sub(/, i64/, ", i32") }
     /^define noundef / {
         name = named($0); line = declared[name]; widened = ""; kept = $3
@@ -162,12 +154,14 @@ awk -v size="$size" '
     { print }
     END { exit failed }' "$room/header.ll" "$room/kept.ll" > "$room/module.ll"
 
-# 4. Its object and archive, by the words that the kit has for x86-64.
+# 4. Its object and archive, by the words that the kit has for x86-64, or for AArch64.
 case $triple in *linux*) pic=-fPIC ;; *) pic=-fno-pic ;; esac
-$compile -ffunction-sections -fdata-sections -mllvm -trap-unreachable -mllvm -no-trap-after-noreturn \
-    -no-canonical-prefixes -fintegrated-cc1 -fno-crash-diagnostics -Werror $pic $level \
-    -c -x ir "$room/module.ll" -o "$room/$crate.o" || die "the kit's clang can't compile for $triple $cpu"
+case $triple in aarch64*) more="-mllvm -aarch64-load-store-renaming=false" ;; *) more= ;; esac
+$compile -mllvm -no-trap-after-noreturn $more -ffunction-sections -fdata-sections -mllvm -trap-unreachable \
+    -mllvm -no-x86-call-frame-opt -mllvm -disable-machine-licm -mllvm -disable-postra-machine-licm \
+    -mllvm -sink-common-insts=false -no-canonical-prefixes -fintegrated-cc1 -fno-crash-diagnostics -Werror $pic $level \
+    -c -x ir "$room/module.ll" -o "$room/${crate}_c.o" || die "the kit's clang can't compile for $triple $cpu"
 mkdir -p "$(dirname "$out")"
 rm -f "$out"
-"$kit/$bin/llvm-ar" rcsD --format=gnu "$out" "$room/$crate.o"
+"$tools/llvm-ar" rcsD --format=gnu "$out" "$room/${crate}_c.o"
 echo "$out"

@@ -9,10 +9,8 @@ here=$(cd "$(dirname "$0")" && pwd)
 crate=${3:-router}
 case ${2:-} in
 '')
-    cd "$here/.."
-    { rt check $crate && rt staticlib $crate; } > "$1/rt.out" 2>&1 || { cat "$1/rt.out" >&2; exit 1; }
-    tail -n 1 "$1/rt.out" >&2
-    echo "$PWD/target/staticlib/lib$crate.a"
+    sh "$here/build.sh" $crate >&2
+    echo "${here%/*}/target/staticlib/lib$crate.a"
     ;;
 plain)
     case $crate in

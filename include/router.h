@@ -22,8 +22,7 @@
  *
  * which proves the library and compiles the proved module for that processor: of either byte order, with pointers and a
  * size_t of 32 or 64 bits, by the C calling convention of the triple. Firmware compiled with -mfloat-abi=hard takes the
- * triple that ends in eabihf. For Linux on x86-64 `rt staticlib router` and `rt staticlib service` write the same to
- * target/staticlib.
+ * triple that ends in eabihf. For Linux on x86-64 `sh host/build.sh router service` writes the same to target/staticlib.
  * An archive needs memcpy, memmove and memset, or some of them, and nothing else: no start-up code, no heap, no other
  * function. On ARM they have the names that its compilers give them: __aeabi_memcpy, __aeabi_memmove, __aeabi_memset and
  * __aeabi_memclr, also with 4 or 8 behind. No area has to lie on a word. docs/BENCH.md has the stack of each call.

@@ -2,7 +2,7 @@
 # run.sh - compares what the programs `tape` and `page` print with what the second implementation does, on the tapes of
 # this folder and on long ones made here, and sees what they do where they can't write or read and while a pipe is open.
 # usage: run.sh [TAPE_PROGRAM PAGE_PROGRAM] [write]
-# Without programs, target/bin/tape and target/bin/page, which rt proves and builds.
+# Without programs, target/bin/tape and target/bin/page, which host/build.sh has proved and built.
 # write: first writes the tapes of this folder anew, and what is expected of them. Needs gcc and python3.
 # SANITIZE=yes: the second implementation is built with sanitizers (host/flags.sh).
 # Ends with a line "tapes: N passed, M failed"; nonzero exit on any failure.
@@ -33,7 +33,7 @@ for command in gcc python3; do
     command -v $command > /dev/null || { echo "tapes: there is no $command, and nothing to compare with" >&2; exit 1; }
 done
 if [ $words -eq 0 ]; then
-    (cd "$here/.." && rt check tape page) > "$build/rt.out" 2>&1 || { cat "$build/rt.out"; exit 1; }
+    sh "$here/../host/build.sh" tape page || exit 1
     tape_program=$here/../target/bin/tape
     page_program=$here/../target/bin/page
 fi

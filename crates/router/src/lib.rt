@@ -1,5 +1,6 @@
 // The router's entries: what the board firmware and the display software call.
 #![tactic(auto)]
+
 ghost use Rattle.std.specs.Prelude.{◌≡◌, take, drop};
 ghost use Rattle.rules.specs.Areas.{number_reply, Outcome, Store};
 ghost use Rattle.rules.specs.Board.{board8};
@@ -10,21 +11,19 @@ ghost use Rattle.display.specs.Display.{display, display_start};
 use layout::Router;
 
 // Makes state and memory those of a fresh router.
-#[unsafe(no_mangle)]
-pub extern "C" fn router_fresh(state: &mut [u8], memory: &mut [u8], clock: u8) -> u8
+pub fn router_fresh(state: &mut [u8], memory: &mut [u8], clock: u8) -> u8
     ensures { ◌≡◌ {A = Outcome Store}
-        (record { reply = number_reply result; after = record { state = state.exit.now; memory = memory.new } })
-        (make_fresh board8 (record { state = state.entry.now; memory = memory.old }) clock) }
+        (record { reply = number_reply result; after = record { state = state.new; memory = memory.new } })
+        (make_fresh board8 (record { state = state.old; memory = memory.old }) clock) }
 {
     fresh::make_fresh(state, memory, clock)
 }
 
 // Writes a value to a control register.
-#[unsafe(no_mangle)]
-pub extern "C" fn router_control(state: &mut [u8], memory: &[u8], register: u8, value: u8) -> u8
+pub fn router_control(state: &mut [u8], memory: &[u8], register: u8, value: u8) -> u8
     ensures { ◌≡◌ {A = Outcome Store}
-        (record { reply = number_reply result; after = record { state = state.exit.now; memory = memory.now } })
-        (control_write board8 (record { state = state.entry.now; memory = memory.now }) register value) }
+        (record { reply = number_reply result; after = record { state = state.new; memory = memory.now } })
+        (control_write board8 (record { state = state.old; memory = memory.now }) register value) }
 {
     let number = questions::of_control(state, memory, register, value).number();
     if number != 0 {
@@ -35,8 +34,7 @@ pub extern "C" fn router_control(state: &mut [u8], memory: &[u8], register: u8, 
 }
 
 // One tick of the clock.
-#[unsafe(no_mangle)]
-pub extern "C" fn router_tick(
+pub fn router_tick(
     state: &mut [u8],
     memory: &mut [u8],
     arrivals: &[u8],
@@ -46,8 +44,8 @@ pub extern "C" fn router_tick(
     waiting: u8,
 ) -> u8
     ensures { ◌≡◌ {A = Outcome Store}
-        (record { reply = record { number = result; outgoing = outgoing.new; answers = answers.new }; after = record { state = state.exit.now; memory = memory.new } })
-        (tick board8 (record { state = state.entry.now; memory = memory.old }) arriving waiting arrivals.now outgoing.old answers.old) }
+        (record { reply = record { number = result; outgoing = outgoing.new; answers = answers.new }; after = record { state = state.new; memory = memory.new } })
+        (tick board8 (record { state = state.old; memory = memory.old }) arriving waiting arrivals.now outgoing.old answers.old) }
 {
     let n = questions::of_tick(
         state, memory, arrivals, outgoing, answers, arriving, waiting,
@@ -63,8 +61,7 @@ pub extern "C" fn router_tick(
 }
 
 // Where the display part of a port starts in the outgoing area; the area's length where it is empty.
-#[unsafe(no_mangle)]
-pub extern "C" fn router_display(outgoing: &[u8], port: u8) -> usize
+pub fn router_display(outgoing: &[u8], port: u8) -> usize
     ensures start { result ≡ display_start 1 outgoing.now port }
     ensures part { take 18 (drop result outgoing.now) ≡ display 1 outgoing.now port }
 {
@@ -72,8 +69,7 @@ pub extern "C" fn router_display(outgoing: &[u8], port: u8) -> usize
 }
 
 // The version of this archive.
-#[unsafe(no_mangle)]
-pub extern "C" fn router_version() -> u32
+pub fn router_version() -> u32
     ensures { result ≡ version }
 {
     Router::VERSION

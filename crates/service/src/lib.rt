@@ -1,5 +1,6 @@
 // What the service bench calls: the entry that names a fault, and those of the queue engine.
 #![tactic(auto)]
+
 ghost use Rattle.std.specs.Prelude.{◌≡◌};
 ghost use Rattle.rules.specs.Areas.{number_reply, Outcome};
 ghost use Rattle.rules.specs.Board.{board8};
@@ -11,8 +12,7 @@ ghost use Rattle.queues.specs.Engine.{Bench, fill, control, tick};
 use layout::{Refusal, Router};
 
 // Names the fault of a state, which it only reads; of stored packets the lowest bad slot with it.
-#[unsafe(no_mangle)]
-pub extern "C" fn router_fault(state: &[u8], memory: &[u8]) -> u16
+pub fn router_fault(state: &[u8], memory: &[u8]) -> u16
     ensures { result ≡ service_fault board8 (store state.now memory.now) }
 {
     let number = layout::wide(questions::of_store(state, memory).number());
@@ -23,8 +23,7 @@ pub extern "C" fn router_fault(state: &[u8], memory: &[u8]) -> u16
 }
 
 // Fills the queues from a sound state.
-#[unsafe(no_mangle)]
-pub extern "C" fn router_queues_fill(state: &[u8], memory: &[u8], queues: &mut [u8]) -> u8
+pub fn router_queues_fill(state: &[u8], memory: &[u8], queues: &mut [u8]) -> u8
     ensures { ◌≡◌ {A = Outcome Bench}
         (record { reply = number_reply result; after = record { store = store state.now memory.now; queues = queues.new } })
         (fill board8 (record { store = store state.now memory.now; queues = queues.old })) }
@@ -42,8 +41,7 @@ pub extern "C" fn router_queues_fill(state: &[u8], memory: &[u8], queues: &mut [
 }
 
 // Writes a value to a control register.
-#[unsafe(no_mangle)]
-pub extern "C" fn router_queues_control(
+pub fn router_queues_control(
     state: &mut [u8],
     memory: &[u8],
     queues: &[u8],
@@ -69,8 +67,7 @@ pub extern "C" fn router_queues_control(
 }
 
 // One tick of the clock.
-#[unsafe(no_mangle)]
-pub extern "C" fn router_queues_tick(
+pub fn router_queues_tick(
     state: &mut [u8],
     memory: &mut [u8],
     queues: &mut [u8],
@@ -104,8 +101,7 @@ pub extern "C" fn router_queues_tick(
 }
 
 // The version of this archive.
-#[unsafe(no_mangle)]
-pub extern "C" fn service_version() -> u32
+pub fn service_version() -> u32
     ensures { result ≡ version }
 {
     Router::VERSION

@@ -1,6 +1,5 @@
 -- `is_blank` meets its contract. The loop's invariant: the whole part is blank just if what is left of it is. The measure is what is left of the part.
 -- Assumes nothing.
-use Prim.Native.Nat.{◌-◌}
 use native.Mathlib.Numerals.{add-one}
 use borrow.Author.Rules.{rules}
 use borrow.Author.Tests.{eq-eqb, ne_eqb}

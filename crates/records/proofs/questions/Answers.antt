@@ -1,5 +1,7 @@
 -- `questions` meets its contract: each return has the length and the kind that led there. Assumes nothing.
+use native.Mathlib.Omega.{arith}
 use borrow.Author.Tests.{ne_eqb}
+use Rattle.std.proofs.lemmas.Bool.Decides.{nat_tests}
 use Rattle.records.specs.Records.{kind_refusal, record_refusal}
 use Rattle.records.proofs.questions.Goals as goal
 
@@ -21,4 +23,4 @@ returns-in-84 c = rw (c.if-bytes-ne-RECORD.false, c.in-84.is) c.unused_questions
 
 pub returns-in_default : goal.returns-in_default
 unfolding record_refusal kind_refusal
-returns-in_default c = simp (c.if-bytes-ne-RECORD.false, ne_eqb _ _ c.in_default.rest.0.0.1, ne_eqb _ _ c.in_default.rest.0.1, ne_eqb _ _ c.in_default.rest.1)
+returns-in_default c = grind (arith, nat_tests)

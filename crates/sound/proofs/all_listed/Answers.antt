@@ -1,6 +1,5 @@
 -- `sound::all_listed` meets its contract. The loop's invariant: the flag says whether the slots passed are listed just if empty.
 -- The measure is how many are left. Assumes nothing.
-use Prim.Native.Nat.{◌-◌}
 use mathlib.Core.Path.{refl}
 use Rattle.rules.specs.Order.{all}
 use Rattle.passes.proofs.FirstFailure.{all-next}

@@ -1,5 +1,4 @@
 -- `sound::mark` meets its contract. The loop's invariant: `Marked` of the entries passed. The measure is how many are left. Assumes nothing.
-use Prim.Native.Nat.{◌-◌}
 use Rattle.passes.proofs.StackMarks.{marked-none, marked_next}
 use borrow.Author.Rules.{rules}
 use Rattle.sound.proofs.mark.Goals as goal
