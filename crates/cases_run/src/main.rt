@@ -1,55 +1,54 @@
 // Runs document 01's cases through the router's entries, compares all outgoing and answer bytes, and prints of each case what is expected and what was found.
 #![tactic(auto)]
+
 ghost use Rattle.std.specs.Prelude.{◌≡◌, ◌<◌, length};
 ghost use Rattle.rules.specs.Areas.{outgoing_length};
 
 use layout::Router;
-use libc::STDOUT_FILENO;
+use std::io;
 
-fn print(text: &[u8]) {
-    io::write_all(STDOUT_FILENO, text);
-}
-
-fn print_byte(name: &[u8], area: &[u8], at: usize) {
-    print(name);
-    io::print_decimal(STDOUT_FILENO, layout::byte(area, at) as u64);
+fn print_byte(rt: &impl Print, name: &str, area: &[u8], at: usize) -> io::Result<()> {
+    let byte = layout::byte(area, at);
+    print!(rt; "{name}{byte}")
 }
 
 // What a tick says of port 0: the arrival's answer and the port's, the identifier, the deadline and the first data byte that left, the packets withdrawn.
-fn print_seen(outgoing: &[u8], answers: &[u8]) {
-    print_byte(b" arrival ", answers, 5);
-    print_byte(b" port ", answers, 0);
-    print_byte(b" identifier ", outgoing, 0);
-    print_byte(b" deadline ", outgoing, 1);
-    print_byte(b" data ", outgoing, 2);
-    print_byte(b" withdrawn ", answers, 11);
+fn print_seen(rt: &impl Print, outgoing: &[u8], answers: &[u8]) -> io::Result<()> {
+    print_byte(rt, " arrival ", answers, 5)?;
+    print_byte(rt, " port ", answers, 0)?;
+    print_byte(rt, " identifier ", outgoing, 0)?;
+    print_byte(rt, " deadline ", outgoing, 1)?;
+    print_byte(rt, " data ", outgoing, 2)?;
+    print_byte(rt, " withdrawn ", answers, 11)
 }
 
-fn print_verdict(same: bool) {
+fn print_verdict(rt: &impl Print, same: bool) -> io::Result<()> {
     if same {
-        print(b": ok\n");
+        println!(rt; ": ok")
     } else {
-        print(b": DIFFERS\n");
+        println!(rt; ": DIFFERS")
     }
 }
 
 // Outgoing and answers as they should be and as they are.
-fn report(name: &[u8], expected: &[u8], answers: &[u8], outgoing: &[u8], answered: &[u8]) {
-    print(name);
-    print(b": expected");
-    print_seen(expected, answers);
-    print(b", found");
-    print_seen(outgoing, answered);
-    print_verdict(check::same(expected, outgoing) & check::same(answers, answered));
+fn report(
+    rt: &impl Print,
+    name: &str,
+    expected: &[u8],
+    answers: &[u8],
+    outgoing: &[u8],
+    answered: &[u8],
+) -> io::Result<()> {
+    print!(rt; "{name}: expected")?;
+    print_seen(rt, expected, answers)?;
+    print!(rt; ", found")?;
+    print_seen(rt, outgoing, answered)?;
+    print_verdict(rt, expected == outgoing && answers == answered)
 }
 
-fn report_number(name: &[u8], expected: u64, found: u64) {
-    print(name);
-    print(b": expected ");
-    io::print_decimal(STDOUT_FILENO, expected);
-    print(b", found ");
-    io::print_decimal(STDOUT_FILENO, found);
-    print_verdict(expected == found);
+fn report_number(rt: &impl Print, name: &str, expected: u64, found: u64) -> io::Result<()> {
+    print!(rt; "{name}: expected {expected}, found {found}")?;
+    print_verdict(rt, expected == found)
 }
 
 // A packet of a port: identifier, time and 18 bytes of data, all different. The first of these tells packets apart.
@@ -81,14 +80,15 @@ fn prepare(state: &mut [u8], memory: &mut [u8], clock: u8, delay: u8, horizon: u
 
 // A tick without best-effort, compared with what is expected. Outgoing and answers are lent full of nines.
 fn tick(
+    rt: &impl Print,
     state: &mut [u8],
     memory: &mut [u8],
     arrivals: &[u8],
     arriving: u8,
-    name: &[u8],
+    name: &str,
     expected: &[u8],
     answers: &[u8],
-) {
+) -> io::Result<()> {
     let mut outgoing = [9u8; Router::OUTGOING];
     let mut answered = [9u8; Router::ANSWERS];
     router::router_tick(
@@ -100,7 +100,7 @@ fn tick(
         arriving,
         0,
     );
-    report(name, expected, answers, &outgoing, &answered);
+    report(rt, name, expected, answers, &outgoing, &answered)
 }
 
 // What port 0 sends, if it does: packet 1.
@@ -114,15 +114,16 @@ fn put_sent(expected: &mut [u8], port: u8, deadline: u8)
 
 // A tick with a packet on port 0: its time and the first byte of its data; the arrival's answer and the port's, and the deadline with which port 0 sends packet 1.
 fn tick_one(
+    rt: &impl Print,
     state: &mut [u8],
     memory: &mut [u8],
-    name: &[u8],
+    name: &str,
     time: u8,
     first: u8,
     arrival: u8,
     port: u8,
     deadline: u8,
-) {
+) -> io::Result<()> {
     let mut arrivals = [0u8; Router::ARRIVALS];
     let mut expected = [0u8; Router::OUTGOING];
     let mut answers = [0u8; Router::ANSWERS];
@@ -130,15 +131,25 @@ fn tick_one(
     answers[0] = port;
     answers[5] = arrival;
     put_sent(&mut expected, port, deadline);
-    tick(state, memory, &arrivals, 1, name, &expected, &answers);
+    tick(rt, state, memory, &arrivals, 1, name, &expected, &answers)
 }
 
 // One packet at t = 240: its delay, its port's horizon, its time; then as above.
-fn one(name: &[u8], delay: u8, horizon: u8, time: u8, arrival: u8, port: u8, deadline: u8) {
+fn one(
+    rt: &impl Print,
+    name: &str,
+    delay: u8,
+    horizon: u8,
+    time: u8,
+    arrival: u8,
+    port: u8,
+    deadline: u8,
+) -> io::Result<()> {
     let mut state = [0u8; Router::STATE];
     let mut memory = [0u8; Router::MEMORY];
     prepare(&mut state, &mut memory, 240, delay, horizon);
     tick_one(
+        rt,
         &mut state,
         &mut memory,
         name,
@@ -147,25 +158,25 @@ fn one(name: &[u8], delay: u8, horizon: u8, time: u8, arrival: u8, port: u8, dea
         arrival,
         port,
         deadline,
-    );
+    )
 }
 
-fn one_packet() {
-    one(b"time 80, horizon 96", 40, 96, 80, 1, 3, 120);
-    one(b"time 80, horizon 95", 40, 95, 80, 1, 0, 0);
-    one(b"time 111, horizon 127", 40, 127, 111, 1, 3, 151);
-    one(b"time 111, horizon 126", 40, 126, 111, 1, 0, 0);
-    one(b"time 210", 40, 0, 210, 1, 1, 250);
-    one(b"time 200", 40, 0, 200, 1, 1, 240);
-    one(b"time 199", 40, 0, 199, 7, 0, 0);
-    one(b"time 112", 40, 127, 112, 7, 0, 0);
-    one(b"time 112, d = 127", 127, 127, 112, 7, 0, 0);
-    one(b"time 113, d = 127", 127, 0, 113, 1, 1, 240);
-    one(b"time 240, d = 0", 0, 0, 240, 1, 1, 240);
+fn one_packet(rt: &impl Print) -> io::Result<()> {
+    one(rt, "time 80, horizon 96", 40, 96, 80, 1, 3, 120)?;
+    one(rt, "time 80, horizon 95", 40, 95, 80, 1, 0, 0)?;
+    one(rt, "time 111, horizon 127", 40, 127, 111, 1, 3, 151)?;
+    one(rt, "time 111, horizon 126", 40, 126, 111, 1, 0, 0)?;
+    one(rt, "time 210", 40, 0, 210, 1, 1, 250)?;
+    one(rt, "time 200", 40, 0, 200, 1, 1, 240)?;
+    one(rt, "time 199", 40, 0, 199, 7, 0, 0)?;
+    one(rt, "time 112", 40, 127, 112, 7, 0, 0)?;
+    one(rt, "time 112, d = 127", 127, 127, 112, 7, 0, 0)?;
+    one(rt, "time 113, d = 127", 127, 0, 113, 1, 1, 240)?;
+    one(rt, "time 240, d = 0", 0, 0, 240, 1, 1, 240)
 }
 
 // Two packets of time 240 and d = 0, on ports 0 and 1: the second is stored too, and withdrawn.
-fn two_packets(state: &mut [u8], memory: &mut [u8]) {
+fn two_packets(rt: &impl Print, state: &mut [u8], memory: &mut [u8]) -> io::Result<()> {
     let mut arrivals = [0u8; Router::ARRIVALS];
     let mut expected = [0u8; Router::OUTGOING];
     let answers = [1, 0, 0, 0, 0, 1, 1, 0, 0, 0, 0, 1, 0, 0, 0, 0, 0, 0, 0, 0];
@@ -174,19 +185,20 @@ fn two_packets(state: &mut [u8], memory: &mut [u8]) {
     put_packet(&mut arrivals, 1, 5, 240, 2);
     put_packet(&mut expected, 0, 33, 240, 1);
     tick(
+        rt,
         state,
         memory,
         &arrivals,
         3,
-        b"time 240, d = 0, two of them",
+        "time 240, d = 0, two of them",
         &expected,
         &answers,
-    );
+    )
 }
 
 // The first byte of data of the nth packet, which turns over at 256.
 fn nth(first: u8, n: u8) -> u8 {
-    std::num::wrapping_add_u8(first, n)
+    first.wrapping_add(n)
 }
 
 // Five arrivals of one time.
@@ -231,39 +243,42 @@ fn fill_ten(state: &mut [u8], memory: &mut [u8]) {
 
 // A tick without arrivals, in which port 0 sends a packet of this identifier, and port 4 one of connection 3.
 fn tick_ten(
+    rt: &impl Print,
     state: &mut [u8],
     memory: &mut [u8],
-    name: &[u8],
+    name: &str,
     identifier: u8,
     first: u8,
     third: u8,
-) {
+) -> io::Result<()> {
     let arrivals = [0u8; Router::ARRIVALS];
     let mut expected = [0u8; Router::OUTGOING];
     let answers = [1, 0, 0, 0, 1, 0, 0, 0, 0, 0, 0, 0, 0, 0, 0, 0, 0, 0, 0, 0];
     put_packet(&mut expected, 0, identifier, 24, first);
     put_packet(&mut expected, 4, 3, 24, third);
-    tick(state, memory, &arrivals, 0, name, &expected, &answers);
+    tick(rt, state, memory, &arrivals, 0, name, &expected, &answers)
 }
 
-fn equal_keys(state: &mut [u8], memory: &mut [u8]) {
+fn equal_keys(rt: &impl Print, state: &mut [u8], memory: &mut [u8]) -> io::Result<()> {
     fill_ten(state, memory);
     tick_ten(
+        rt,
         state,
         memory,
-        b"one time and one deadline in slots 9 and 2, first",
+        "one time and one deadline in slots 9 and 2, first",
         2,
         3,
         1,
-    );
+    )?;
     tick_ten(
+        rt,
         state,
         memory,
-        b"one time and one deadline in slots 9 and 2, next",
+        "one time and one deadline in slots 9 and 2, next",
         9,
         10,
         2,
-    );
+    )
 }
 
 // A fresh router with connections 5 and 7 to port 0, as 33 and 35, each with its delay, and 6 to port 1.
@@ -290,14 +305,15 @@ fn tick_slot2(state: &mut [u8], memory: &mut [u8], clock: u8, time: u8) {
 
 // The next tick: slot 9 gets a packet of connection 5, slots 5 to 8 those of connection 6. Port 0 sends that of slot 9, under its deadline.
 fn tick_slot9(
+    rt: &impl Print,
     state: &mut [u8],
     memory: &mut [u8],
-    name: &[u8],
+    name: &str,
     clock: u8,
     time: u8,
     port: u8,
     deadline: u8,
-) {
+) -> io::Result<()> {
     let mut arrivals = [0u8; Router::ARRIVALS];
     let mut expected = [0u8; Router::OUTGOING];
     let mut answers = [0, 0, 0, 0, 0, 1, 1, 1, 1, 1, 0, 0, 0, 0, 0, 0, 0, 0, 0, 0];
@@ -305,14 +321,15 @@ fn tick_slot9(
     put_five(&mut arrivals, [6; Router::PORTS], nth(clock, 11), 6);
     put_packet(&mut arrivals, 4, 5, time, 10);
     put_packet(&mut expected, 0, 33, deadline, 10);
-    print(b"slots 9 and 2, ");
-    tick(state, memory, &arrivals, 31, name, &expected, &answers);
+    print!(rt; "slots 9 and 2, ")?;
+    tick(rt, state, memory, &arrivals, 31, name, &expected, &answers)
 }
 
 // Equal keys in slots 9 and 2, where slot 9's packet goes first: the clock before that tick, and port 0's horizon; delay and time of slot 2's packet, then of slot 9's;
 // the port's answer, and the deadline with which it sends slot 9's.
 fn nine_first(
-    name: &[u8],
+    rt: &impl Print,
+    name: &str,
     clock: u8,
     horizon: u8,
     delay2: u8,
@@ -321,21 +338,41 @@ fn nine_first(
     time9: u8,
     port: u8,
     deadline: u8,
-) {
+) -> io::Result<()> {
     let mut state = [0u8; Router::STATE];
     let mut memory = [0u8; Router::MEMORY];
     connect_tied(&mut state, &mut memory, clock, horizon, delay2, delay9);
     tick_slot2(&mut state, &mut memory, clock, time2);
-    tick_slot9(&mut state, &mut memory, name, clock, time9, port, deadline);
+    tick_slot9(
+        rt,
+        &mut state,
+        &mut memory,
+        name,
+        clock,
+        time9,
+        port,
+        deadline,
+    )
 }
 
 // On time, the earlier time goes first; early, the earlier deadline. At t = 240, and after the clock's turn at t = 0.
-fn ties() {
-    nine_first(b"times 210 and 240", 239, 0, 10, 240, 40, 210, 1, 250);
-    nine_first(b"times 246 and 0", 255, 0, 10, 0, 20, 246, 1, 10);
-    nine_first(b"deadlines 90 and 120", 239, 96, 40, 80, 10, 80, 3, 90);
-    nine_first(b"deadlines 251 and 25", 239, 1, 40, 241, 10, 241, 3, 251);
-    nine_first(b"deadlines 128 and 223", 255, 96, 127, 96, 32, 96, 3, 128);
+fn ties(rt: &impl Print) -> io::Result<()> {
+    nine_first(rt, "times 210 and 240", 239, 0, 10, 240, 40, 210, 1, 250)?;
+    nine_first(rt, "times 246 and 0", 255, 0, 10, 0, 20, 246, 1, 10)?;
+    nine_first(rt, "deadlines 90 and 120", 239, 96, 40, 80, 10, 80, 3, 90)?;
+    nine_first(rt, "deadlines 251 and 25", 239, 1, 40, 241, 10, 241, 3, 251)?;
+    nine_first(
+        rt,
+        "deadlines 128 and 223",
+        255,
+        96,
+        127,
+        96,
+        32,
+        96,
+        3,
+        128,
+    )
 }
 
 // How many addresses are idle.
@@ -344,7 +381,7 @@ fn idle_count(state: &[u8]) -> u64 {
 }
 
 // A packet for all five ports arrives.
-fn tick_all(state: &mut [u8], memory: &mut [u8]) {
+fn tick_all(rt: &impl Print, state: &mut [u8], memory: &mut [u8]) -> io::Result<()> {
     let mut arrivals = [0u8; Router::ARRIVALS];
     let mut expected = [0u8; Router::OUTGOING];
     let answers = [1, 1, 1, 1, 1, 1, 0, 0, 0, 0, 0, 0, 0, 0, 0, 0, 0, 0, 0, 0];
@@ -355,62 +392,75 @@ fn tick_all(state: &mut [u8], memory: &mut [u8]) {
     put_packet(&mut expected, 3, 33, 24, 1);
     put_packet(&mut expected, 4, 33, 24, 1);
     tick(
+        rt,
         state,
         memory,
         &arrivals,
         1,
-        b"mask 31, time 240, all five ports",
+        "mask 31, time 240, all five ports",
         &expected,
         &answers,
-    );
+    )
 }
 
-fn five_ports(state: &mut [u8], memory: &mut [u8]) {
+fn five_ports(rt: &impl Print, state: &mut [u8], memory: &mut [u8]) -> io::Result<()> {
     router::router_fresh(state, memory, 240);
     connect(state, memory, 5, 33, 40, 31);
-    tick_all(state, memory);
-    report_number(b"mask 31, time 240, idle addresses", 256, idle_count(state));
+    tick_all(rt, state, memory)?;
     report_number(
-        b"mask 31, time 240, next address",
+        rt,
+        "mask 31, time 240, idle addresses",
+        256,
+        idle_count(state),
+    )?;
+    report_number(
+        rt,
+        "mask 31, time 240, next address",
         0,
         layout::byte(state, 267) as u64,
-    );
+    )
 }
 
 // 255 packets for time 240, five a tick.
 fn fill(state: &mut [u8], memory: &mut [u8]) {
-    let mut i: u8 = 0;
-    while i < 51 {
+    for i in 0..51 {
         tick_five(state, memory, [5; Router::PORTS], 240, 5 * i + 1);
-        i += 1;
     }
 }
 
 // A tick with one more.
-fn tick_more(state: &mut [u8], memory: &mut [u8], name: &[u8], arrival: u8, port: u8) {
-    tick_one(state, memory, name, 240, 0, arrival, port, 24);
+fn tick_more(
+    rt: &impl Print,
+    state: &mut [u8],
+    memory: &mut [u8],
+    name: &str,
+    arrival: u8,
+    port: u8,
+) -> io::Result<()> {
+    tick_one(rt, state, memory, name, 240, 0, arrival, port, 24)
 }
 
-fn all_stored(state: &mut [u8], memory: &mut [u8]) {
+fn all_stored(rt: &impl Print, state: &mut [u8], memory: &mut [u8]) -> io::Result<()> {
     prepare(state, memory, 188, 40, 0);
     fill(state, memory);
-    tick_more(state, memory, b"the 256th packet", 1, 0);
-    report_number(b"256 stored, idle addresses", 0, idle_count(state));
-    tick_more(state, memory, b"256 stored, the next arrival", 8, 1);
+    tick_more(rt, state, memory, "the 256th packet", 1, 0)?;
+    report_number(rt, "256 stored, idle addresses", 0, idle_count(state))?;
+    tick_more(rt, state, memory, "256 stored, the next arrival", 8, 1)?;
     report_number(
-        b"256 stored, idle addresses after that tick",
+        rt,
+        "256 stored, idle addresses after that tick",
         1,
         idle_count(state),
-    );
+    )
 }
 
-fn main() {
+fn main(rt: HostRuntime) -> io::Result<()> {
     let mut state = [0u8; Router::STATE];
     let mut memory = [0u8; Router::MEMORY];
-    one_packet();
-    two_packets(&mut state, &mut memory);
-    equal_keys(&mut state, &mut memory);
-    ties();
-    five_ports(&mut state, &mut memory);
-    all_stored(&mut state, &mut memory);
+    one_packet(&rt)?;
+    two_packets(&rt, &mut state, &mut memory)?;
+    equal_keys(&rt, &mut state, &mut memory)?;
+    ties(&rt)?;
+    five_ports(&rt, &mut state, &mut memory)?;
+    all_stored(&rt, &mut state, &mut memory)
 }

@@ -1,5 +1,6 @@
 // The engine's tick: each port's choice by the first ones of its queues, as in Table 1, and the six steps.
 #![tactic(auto)]
+
 ghost use Rattle.std.specs.Prelude.{◌≡◌, ℕ, ◌<◌, length, pos};
 ghost use Rattle.rules.specs.Areas.{Outcome};
 ghost use Rattle.rules.specs.Board.{board8};

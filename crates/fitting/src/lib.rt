@@ -1,5 +1,6 @@
 // Question 21: do the queues belong to the state, as far as their sizes and first ones tell?
 #![tactic(auto)]
+
 ghost use Rattle.std.specs.Prelude.{◌≡◌, ◌<◌, length};
 ghost use Rattle.rules.specs.Board.{board8};
 ghost use Rattle.queues.specs.Area.{queues_length, queue, size};

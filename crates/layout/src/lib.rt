@@ -87,7 +87,7 @@ impl Router {
 }
 
 // What a call answers: accepted, or the question that stopped it.
-#[derive(Drop)]
+#[derive(Clone, Copy)]
 pub enum Refusal {
     Accepted,
     Lengths,

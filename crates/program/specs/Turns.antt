@@ -1,7 +1,11 @@
--- What a turn of the programs' loop takes in and holds, what lies between turns, and whether there is more to do. Assumes nothing.
-use Rattle.std.specs.Prelude.{ℕ, ◌+◌, ◌≤◌, ◌<◌, ◌≡◌, Bool, not, ◌&&◌, List, length, take, drop}
+-- What a turn of the programs' loop takes in and holds, what lies between turns, whether there is more to do, and what a whole run prints. Assumes nothing.
+use Rattle.std.specs.Io.KnownBytes.{Appends}
+use Rattle.std.specs.Prelude.{ℕ, ◌+◌, ◌≤◌, ◌<◌, ◌≡◌, Bool, not, ◌&&◌, List, length, take, drop, IfSome}
+use Rattle.core.specs.declared.option.Option.{Option}
 use Rattle.records.specs.Records.{record_length}
+use Rattle.tapes.specs.declared.printing.Style.{Style}
 use Rattle.tapes.specs.declared.stepping.Place as Code
+use Rattle.tapes.specs.Printed.{printed}
 use Rattle.tapes.specs.Blocks.{Between, to_take}
 use Rattle.tapes.specs.Values.{place_of}
 use Rattle.program.specs.declared.Held.{Held}
@@ -34,3 +38,7 @@ between_of state memory arrivals p h = record { place = place_of state memory ar
 -- A turn at the input's end, with a failed read or with a failed write is the last.
 abbrev pub is_going_on : TurnEnd → Bool
 is_going_on t = not t.input.reading.ended && not t.input.reading.failed && t.printed.written
+
+-- Where the reader says which bytes it has left, and the writer which it holds: what is printed of all bytes that were left has been written after those held before.
+abbrev pub PrintsTape : Style → Option (List ℕ) → Option (List ℕ) → Option (List ℕ) → Type 0
+PrintsTape style tape before after = IfSome tape (λ bytes. Appends before after (printed style bytes))

@@ -1,6 +1,8 @@
 // What the programs `tape` and `page` share: records from standard input, and what is printed of them to standard output as they come. What can't be read or written is said on standard error.
 #![tactic(auto)]
+
 ghost use Rattle.std.specs.Prelude.{◌+◌, ◌*◌, ◌≤◌, ◌<◌, ◌^◌, ◌≡◌, true, cond, [], ◌++◌, length, take, drop};
+ghost use Rattle.std.specs.Io.KnownBytes.{Consumes, Appends, IsAtEnd};
 ghost use Rattle.rules.specs.Areas.{memory_length, arrivals_length};
 ghost use Rattle.rules.specs.Board.{board8};
 ghost use Rattle.records.specs.Records.{record_length};
@@ -9,11 +11,11 @@ ghost use Rattle.pages.specs.Values.{Unfilled};
 ghost use Rattle.tapes.specs.Printed.{print_end};
 ghost use Rattle.tapes.specs.Blocks as Blocks;
 ghost use Rattle.tapes.specs.Values.{place_of};
-ghost use Rattle.program.specs.Turns.{bytes_of, PartOfRecord, brought, Divided, between_of, is_going_on};
+ghost use Rattle.program.specs.Turns.{bytes_of, PartOfRecord, brought, Divided, between_of, is_going_on, PrintsTape};
 
 use layout::Router;
-use libc::{STDERR_FILENO, STDIN_FILENO, STDOUT_FILENO};
 use pages::Page;
+use std::io::{Read, Write};
 use tapes::printing::Style;
 use tapes::stepping::Place;
 use tapes::{printing, stepping};
@@ -28,23 +30,41 @@ const LINES: usize = RECORDS * 161 + 4526;
 // A tape is read to its end, or by 2 ^ 48 reads, which take years.
 const READS: u64 = 281474976710656;
 
-// Says on standard error, after the program's name, what it can't do.
-fn say(name: &[u8], what: &[u8]) {
-    io::write_all(STDERR_FILENO, name);
-    io::write_all(STDERR_FILENO, what);
+// What a program reads, what it writes, and where it says what it can't do.
+#[derive(Drop)]
+pub struct Streams<I, O, E> {
+    pub input: I,
+    pub output: O,
+    pub errors: E,
 }
 
-// Writes to standard output, or says that it can't.
-fn write_out(name: &[u8], text: &[u8]) -> bool {
-    let written = io::write_all(STDOUT_FILENO, text);
+// Says on standard error, after the program's name, what it can't do. Where even that can't be written, nothing is left to say.
+fn say<I, O, E: Write>(streams: &mut Streams<I, O, E>, name: &[u8], what: &[u8])
+    ensures same_input { streams.new.input ≡ streams.old.input }
+    ensures same_output { streams.new.output ≡ streams.old.output }
+{
+    let _ = streams.errors.write_all(name);
+    let _ = streams.errors.write_all(what);
+}
+
+// Writes to standard output at once, or says that it can't.
+fn write_out<I, O: Write, E: Write>(
+    streams: &mut Streams<I, O, E>,
+    name: &[u8],
+    text: &[u8],
+) -> bool
+    ensures written { result ≡ true → Appends (O.contents streams.old.output) (O.contents streams.new.output) text.now }
+    ensures same_input { streams.new.input ≡ streams.old.input }
+{
+    let written = streams.output.write_all(text).is_ok() && streams.output.flush().is_ok();
     if !written {
-        say(name, b"standard output can't be written\n");
+        say(streams, name, b"standard output can't be written\n");
     }
     written
 }
 
 // How many bytes a read brought, how many the block has after it, and whether the input has ended or can't be read.
-#[derive(Drop)]
+#[derive(Clone, Copy)]
 struct Reading {
     count: usize,
     filled: usize,
@@ -53,22 +73,35 @@ struct Reading {
 }
 
 // Reads what is there, up to the end of a block whose first bytes are held.
-fn read_more(name: &[u8], block: &mut [u8], held: usize) -> Reading
+fn read_more<I: Read, O, E: Write>(
+    streams: &mut Streams<I, O, E>,
+    name: &[u8],
+    block: &mut [u8],
+    held: usize,
+) -> Reading
     requires { held < length block.old }
     ensures filled_value { (result.filled ≡ held + result.count) × (result.filled ≤ length block.new) }
     ensures block_unchanged { take held block.new ≡ take held block.old }
+    ensures consumed { Consumes (I.remaining streams.old.input) (I.remaining streams.new.input) (take result.count (drop held block.new)) }
+    ensures at_end { result.ended ≡ true → IsAtEnd (I.remaining streams.new.input) }
+    ensures same_output { streams.new.output ≡ streams.old.output }
 {
-    let room = &mut block[held..];
-    let got = libc::read(STDIN_FILENO, room);
-    let count = io::count(got, room);
-    if got < 0 {
-        say(name, b"standard input can't be read\n");
-    }
-    Reading {
-        count,
-        filled: held + count,
-        ended: got == 0,
-        failed: got < 0,
+    match streams.input.read(&mut block[held..]) {
+        Ok(count) => Reading {
+            count,
+            filled: held + count,
+            ended: count == 0,
+            failed: false,
+        },
+        Err(_) => {
+            say(streams, name, b"standard input can't be read\n");
+            Reading {
+                count: 0,
+                filled: held,
+                ended: false,
+                failed: true,
+            }
+        }
     }
 }
 
@@ -84,7 +117,7 @@ fn to_take(filled: usize, ended: bool) -> usize
 }
 
 // The bytes held from one turn to the next: the first ones of a record that has not all come.
-#[derive(Drop)]
+#[derive(Clone, Copy)]
 struct Held {
     bytes: [u8; records::RECORD],
     count: usize,
@@ -103,7 +136,7 @@ fn hold(rest: &[u8]) -> Held
 }
 
 // What was read, how many bytes of the block are to be taken, and those after them, which are held.
-#[derive(Drop)]
+#[derive(Clone, Copy)]
 struct Input {
     reading: Reading,
     taken: usize,
@@ -111,16 +144,24 @@ struct Input {
 }
 
 // A block: the bytes held, and what is read after them. The first bytes of a record that has not all come are held again.
-fn take_in(name: &[u8], block: &mut [u8], held: Held) -> Input
+fn take_in<I: Read, O, E: Write>(
+    streams: &mut Streams<I, O, E>,
+    name: &[u8],
+    block: &mut [u8],
+    held: Held,
+) -> Input
     requires { (length block.old ≡ 1024 * record_length) × PartOfRecord held }
     ensures block_after { take result.reading.filled block.new ≡ bytes_of held ++ brought held result.reading block.new }
     ensures held_value { bytes_of result.held ≡ drop result.taken (take result.reading.filled block.new) }
     ensures divided { Divided held (length block.new) result }
+    ensures consumed { Consumes (I.remaining streams.old.input) (I.remaining streams.new.input) (brought held result.reading block.new) }
+    ensures at_end { result.reading.ended ≡ true → IsAtEnd (I.remaining streams.new.input) }
+    ensures same_output { streams.new.output ≡ streams.old.output }
 {
     let bytes = held.bytes;
     let count = held.count;
     layout::copy_in(&bytes[..count], block, 0);
-    let reading = read_more(name, block, count);
+    let reading = read_more(streams, name, block, count);
     let filled = reading.filled;
     let taken = to_take(filled, reading.ended);
     let held = hold(&block[taken..filled]);
@@ -144,7 +185,7 @@ fn put_end(lines: &mut [u8], at: usize, style: Style, page: Page, ended: bool) -
 }
 
 // After a block's records: the place, the text's length, and whether it was written.
-#[derive(Drop)]
+#[derive(Clone, Copy)]
 struct Printed {
     place: Place,
     length: usize,
@@ -152,7 +193,8 @@ struct Printed {
 }
 
 // Takes a block's records, and writes what is printed of them; at the input's end, what goes out then too.
-fn print_block(
+fn print_block<I, O: Write, E: Write>(
+    streams: &mut Streams<I, O, E>,
     name: &[u8],
     style: Style,
     state: &mut [u8],
@@ -168,11 +210,13 @@ fn print_block(
         (record { place = place_of state.new memory.new arrivals.new result.place; text = take result.length lines.new })
         (Blocks.with_end style ended (Blocks.turned style (place_of state.old memory.old arrivals.old place) block.now)) }
     ensures unfilled { Unfilled result.place.page }
+    ensures written { result.written ≡ true → Appends (O.contents streams.old.output) (O.contents streams.new.output) (take result.length lines.new) }
+    ensures same_input { streams.new.input ≡ streams.old.input }
 {
     let turned = stepping::run(state, memory, arrivals, place, block, style, lines);
     let place = turned.place;
     let length = put_end(lines, turned.length, style, place.page, ended);
-    let written = write_out(name, &lines[..length]);
+    let written = write_out(streams, name, &lines[..length]);
     Printed {
         place,
         length,
@@ -181,7 +225,7 @@ fn print_block(
 }
 
 // After a turn: what came in, what was printed, and whether there is more to do.
-#[derive(Drop)]
+#[derive(Clone, Copy)]
 struct TurnEnd {
     input: Input,
     printed: Printed,
@@ -189,7 +233,8 @@ struct TurnEnd {
 }
 
 // Takes in a block, and writes what is printed of its records. A turn at the input's end, with a failed read or with a failed write is the last.
-fn turn(
+fn turn<I: Read, O: Write, E: Write>(
+    streams: &mut Streams<I, O, E>,
     name: &[u8],
     style: Style,
     state: &mut [u8],
@@ -208,11 +253,15 @@ fn turn(
         (Blocks.turn style result.input.reading.ended (between_of state.old memory.old arrivals.old place held) (brought held result.input.reading block.new)) }
     ensures divided { Divided held (length block.new) result.input × Unfilled result.printed.place.page }
     ensures more_value { result.more ≡ is_going_on result }
+    ensures consumed { Consumes (I.remaining streams.old.input) (I.remaining streams.new.input) (brought held result.input.reading block.new) }
+    ensures at_end { result.input.reading.ended ≡ true → IsAtEnd (I.remaining streams.new.input) }
+    ensures written { result.printed.written ≡ true → Appends (O.contents streams.old.output) (O.contents streams.new.output) (take result.printed.length lines.new) }
 {
-    let input = take_in(name, block, held);
+    let input = take_in(streams, name, block, held);
     let reading = input.reading;
     let taken = input.taken;
     let printed = print_block(
+        streams,
         name,
         style,
         state,
@@ -259,7 +308,7 @@ fn unread(place: Place) -> TurnEnd
 }
 
 // How the last turn ended, how many reads there were, one in each turn, and how many bytes they brought.
-#[derive(Drop)]
+#[derive(Clone, Copy)]
 struct Ran {
     end: TurnEnd,
     reads: u64,
@@ -267,7 +316,8 @@ struct Ran {
 }
 
 // The whole tape, turn after turn: each gets the place and the bytes held that the last one left.
-fn run(
+fn run<I: Read, O: Write, E: Write>(
+    streams: &mut Streams<I, O, E>,
     name: &[u8],
     style: Style,
     state: &mut [u8],
@@ -282,6 +332,8 @@ fn run(
         (between_of state.new memory.new arrivals.new result.end.printed.place result.end.input.held) }
     ensures more_value { result.end.more ≡ is_going_on result.end }
     ensures reads_value { result.end.more ≡ true → result.reads ≡ 2 ^ 48 }
+    ensures printed { result.end.input.reading.ended ≡ true → result.end.printed.written ≡ true
+        → PrintsTape style (I.remaining streams.old.input) (O.contents streams.old.output) (O.contents streams.new.output) }
 {
     let place = stepping::begin(state, memory, arrivals);
     let mut end = unread(place);
@@ -293,7 +345,7 @@ fn run(
         let input = end.input;
         let held = input.held;
         end = turn(
-            name, style, state, memory, arrivals, place, held, block, lines,
+            streams, name, style, state, memory, arrivals, place, held, block, lines,
         );
         let input = end.input;
         let reading = input.reading;
@@ -303,14 +355,21 @@ fn run(
     Ran { end, reads, bytes }
 }
 
-// Prints a tape: the program of that name.
-pub fn print(name: &[u8], style: Style) {
+// Prints a tape: the program of that name. Says whether the tape was read to its end and all of it printed.
+pub fn print<I: Read, O: Write, E: Write>(
+    streams: &mut Streams<I, O, E>,
+    name: &[u8],
+    style: Style,
+) -> bool
+    ensures { result ≡ true → PrintsTape style (I.remaining streams.old.input) (O.contents streams.old.output) (O.contents streams.new.output) }
+{
     let mut state = [0u8; Router::STATE];
     let mut memory = [0u8; Router::MEMORY];
     let mut arrivals = [0u8; Router::ARRIVALS];
     let mut block = [0u8; BLOCK];
     let mut lines = [0u8; LINES];
     let ran = run(
+        streams,
         name,
         style,
         &mut state,
@@ -321,6 +380,7 @@ pub fn print(name: &[u8], style: Style) {
     );
     let end = ran.end;
     if end.more {
-        say(name, b"reading stopped after 2^48 reads\n");
+        say(streams, name, b"reading stopped after 2^48 reads\n");
     }
+    end.input.reading.ended & end.printed.written
 }

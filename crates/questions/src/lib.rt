@@ -1,5 +1,6 @@
 // The questions of a control write and of a tick, in their order.
 #![tactic(auto)]
+
 ghost use Rattle.std.specs.Prelude.{◌≡◌, ◌&&◌, ◌∷◌};
 ghost use Rattle.rules.specs.Areas.{areas_full, asked, control_questions, tick_questions};
 ghost use Rattle.rules.specs.Board.{board8};

@@ -1,5 +1,6 @@
 // One queue of Table 1: how many slots are in it, and its entries. The first of n is entry n - 1.
 #![tactic(auto)]
+
 ghost use Rattle.std.specs.Prelude.{◌≡◌, ◌+◌, ◌-◌, ◌<◌, ◌≤◌, length};
 ghost use Rattle.rules.specs.Board.{clock, board8};
 ghost use Rattle.rules.specs.Tick.{is_early, is_due};

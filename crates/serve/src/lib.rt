@@ -1,5 +1,6 @@
 // Steps 2 to 6 of a tick: each port's choice, the packets sent, withdrawal, the slots given back, the clock.
 #![tactic(auto)]
+
 mod send;
 
 ghost use Rattle.std.specs.Prelude.{◌≡◌, [], ◌∷◌, ℕ, ◌<◌, length};

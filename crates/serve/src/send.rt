@@ -19,6 +19,7 @@ const BEST_EFFORT: u8 = 2;
 const EARLY: u8 = 3;
 
 // The answer of a port that has this grant.
+#[tactic(auto, unfolding(rules::specs::Areas::grant_code))]
 fn code(g: Grant) -> u8
     ensures { result ≡ Areas.grant_code (grant_of g) }
 {

@@ -1,5 +1,6 @@
 // The ten queues of Table 1 in the area that holds them: slots come in, leave, and move over.
 #![tactic(auto)]
+
 ghost use Rattle.std.specs.Prelude.{◌≡◌, ◌-◌, ◌<◌, length};
 ghost use Rattle.rules.specs.Board.{Mask, free, board8};
 ghost use Rattle.rules.specs.Tick.{is_early};

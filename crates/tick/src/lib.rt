@@ -1,5 +1,6 @@
 // The six steps of a tick, and its answers.
 #![tactic(auto)]
+
 ghost use Rattle.std.specs.Prelude.{◌≡◌, ◌/◌, ◌%◌, length, [], ◌∷◌};
 ghost use Rattle.rules.specs.Areas.{byte, per_port, answers_length, answers_area, Outcome, Store};
 ghost use Rattle.rules.specs.Board.{board8};
@@ -67,8 +68,8 @@ pub fn work(
 )
     requires { Lent board8 state.old memory.old arrivals.now outgoing.old answers.old }
     ensures { ◌≡◌ {A = Outcome Store}
-        (record { reply = record { number = 0; outgoing = outgoing.new; answers = answers.new }; after = record { state = state.exit.now; memory = memory.new } })
-        (ticked board8 (record { state = state.entry.now; memory = memory.old }) arriving waiting arrivals.now) }
+        (record { reply = record { number = 0; outgoing = outgoing.new; answers = answers.new }; after = record { state = state.new; memory = memory.new } })
+        (ticked board8 (record { state = state.old; memory = memory.old }) arriving waiting arrivals.now) }
 {
     let met = arrive::arrive(state, memory, arrivals, arriving);
     let served = serve::serve_and_settle(state, memory, outgoing, waiting);

@@ -7,5 +7,5 @@ use Rattle.passes.proofs.Packets.{sets-header}
 use Rattle.arrive.proofs.store_packet.Goals as goal
 
 pub returns : goal.returns
-returns c = let e : c.copy_in.new.1.0 ≡ c.args.packet.now = c.copy_in.ensures ∙ sets-all _ c.args.packet.now (omega arith) in
+returns c = let e : c.copy_in.new.dst ≡ c.args.packet.now = c.copy_in.ensures ∙ sets-all _ c.args.packet.now (omega arith) in
     rw (packed-one, c.copy_in-2.ensures, e) (sets-header _ _ _ _ c.args.packet.now (omega arith))

@@ -10,7 +10,7 @@ use Rattle.rules.proofs.Board8Laws.{lawful8}
 use lib.ListN.{get_or-replicate}
 use native.Mathlib.Numerals.{add-one}
 use mathlib.Core.Path.{◌≡◌, refl, ap, ◌∙◌}
-use Prim.Native.Nat.{ℕ, ◌-◌}
+use Prim.Native.Nat.{ℕ}
 use borrow.Author.Rules.{rules}
 use native.Mathlib.Omega.{arith}
 use Rattle.settle.proofs.settle.Goals as goal
@@ -27,11 +27,11 @@ settle_slot-requires-clause-state c = rw c.loop-i.invariant.2 (length-settled bo
 
 pub loop-i-preserved : goal.loop-i-preserved
 loop-i-preserved c = (
-      search rules,
-      c.settle_slot.auto.state ∙ c.loop-i.invariant.1,
-      rw (add-one c.loop-i.i) (settled-turn board8 lawful8 c.args.state.now c.args.sent.now c.requires.slots.0 c.requires.room c.loop-i.i (omega arith) _ refl _ c.get.ensures _ _ c.loop-i.invariant.2 c.settle_slot.ensures.after),
-      rw (add-one c.loop-i.i) (missed-turn board8 lawful8 c.args.state.now c.args.sent.now c.requires.slots.0 c.requires.room c.loop-i.i (omega arith) _ refl _ c.get.ensures _ _ _ c.loop-i.invariant.2 c.loop-i.invariant.3 c.settle_slot.ensures.counts),
-    )
+  search rules,
+  c.settle_slot.auto.state ∙ c.loop-i.invariant.1,
+  rw (add-one c.loop-i.i) (settled-turn board8 lawful8 c.args.state.now c.args.sent.now c.requires.slots.0 c.requires.room c.loop-i.i (omega arith) _ refl _ c.get.ensures _ _ c.loop-i.invariant.2 c.settle_slot.ensures.after),
+  rw (add-one c.loop-i.i) (missed-turn board8 lawful8 c.args.state.now c.args.sent.now c.requires.slots.0 c.requires.room c.loop-i.i (omega arith) _ refl _ c.get.ensures _ _ _ c.loop-i.invariant.2 c.loop-i.invariant.3 c.settle_slot.ensures.counts),
+)
 
 pub returns-clause-after : goal.returns-clause-after
 returns-clause-after c = let e : c.loop-i.i ≡ c.args.end = omega arith in
