@@ -61,7 +61,7 @@ sed '/^#/d' > "$room/forms" <<END
 ^attributes #[1-9] = \{ nocallback nofree( nosync)? nounwind( speculatable)? willreturn memory\((none|argmem: (read)?write)\) \}\$
 ^!llvm\.ident = !\{!0\}\$|^!0 = !\{!"rattle logic=[0-9a-f]+"\}\$|^!1 = !\{\}\$|^!2 = !\{i8 0, i8 2\}\$
 # a function, which is the crates' own, or an entry
-^define internal (void|noundef( zeroext)? $int|$pair) $own\(($take(, $take)*)?\) #0 \{\$
+^define internal (void|noundef( zeroext)? $int|(noundef )?$pair) $own\(($take(, $take)*)?\) #0 \{\$
 ^define noundef $int @[a-z_]+\(($take(, $take)*)?\) #0 \{\$
 ^[a-z]+(\.[0-9]+)?:( +; .*)?\$|^}\$
 # its instructions
