@@ -1,6 +1,5 @@
 -- `put_refused_arrivals` meets its contract. The loop's invariant: the lines of the ports passed stand there, at most 26 characters each.
 -- The measure is the ports that are left. Assumes nothing.
-use Prim.Native.Nat.{◌-◌}
 use mathlib.Core.Path.{refl}
 use borrow.Author.Rules.{rules}
 use Rattle.rules.specs.Areas.{ports_below}

@@ -1,6 +1,6 @@
 -- `run` meets its contract. The loop's invariant: the tape is that after the records passed, and their text stands there, at most 161 characters each.
 -- The measure is the records that are left. Assumes nothing.
-use Prim.Native.Nat.{◌-◌, ◌≤◌}
+use Prim.Native.Nat.{◌≤◌}
 use mathlib.Core.Path.{◌≡◌, refl}
 use native.Mathlib.Omega.{arith}
 use lib.ListN.{length}
