@@ -17,10 +17,10 @@ bounds-bests-p-in-loop-left c = lowest-port _ c.loop-left.invariant.0 c.loop-lef
 
 pub loop-left-preserved : goal.loop-left-preserved
 loop-left-preserved c = (
-      omega (arith, and_le_r c.loop-left.left (c.loop-left.left - 1)),
-      simp length-set c.loop-left.invariant.1,
-      λ p h. changed-rest _ c.loop-left.invariant.0 c.loop-left-test.true (lesser c.args.rank) c.loop-left.bests c.loop-left.invariant.1 _ c.lesser.ensures p h ∙ c.loop-left.invariant.2 p h,
-    )
+  omega (arith, and_le_r c.loop-left.left (c.loop-left.left - 1)),
+  simp length-set c.loop-left.invariant.1,
+  λ p h. changed-rest _ c.loop-left.invariant.0 c.loop-left-test.true (lesser c.args.rank) c.loop-left.bests c.loop-left.invariant.1 _ c.lesser.ensures p h ∙ c.loop-left.invariant.2 p h,
+)
 
 pub returns : goal.returns
 returns c = record { five = c.loop-left.invariant.1; each = λ p h. changed-none (lesser c.args.rank) _ c.loop-left.bests c.loop-left-test.false p h ∙ c.loop-left.invariant.2 p h }
