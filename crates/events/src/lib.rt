@@ -1,5 +1,6 @@
 // A tape between its records, and what a record comes to.
 #![tactic(auto)]
+
 ghost use Rattle.std.specs.Prelude.{◌≡◌, List, false, ℕ, ◌+◌, ◌^◌, ◌≤◌, length};
 ghost use Rattle.rules.specs.Areas.{Store, memory_length, arrivals_length, outgoing_length, answers_length, has, byte};
 ghost use Rattle.rules.specs.Board.{clock as clock_field, board8};

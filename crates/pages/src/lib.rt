@@ -1,5 +1,6 @@
 // Pages of a tape, printed into a lent area as the ticks come: each function gives the place after its text.
 #![tactic(auto)]
+
 ghost use Rattle.std.specs.Prelude.{◌≡◌, List, [], ◌∷◌, ◌++◌, ℕ, ◌+◌, ◌*◌, ◌≤◌, ◌<◌, length, replicate};
 ghost use Rattle.events.specs.Values.{event_of};
 ghost use Rattle.text.specs.Put.{Put};
@@ -15,7 +16,7 @@ const LINE: usize = 72;
 const TICKS: usize = 62;
 
 // The page at hand: its number, how many ticks stand on it, and how many packets these withdrew. It is begun by its first tick.
-#[derive(Drop)]
+#[derive(Clone, Copy)]
 pub struct Page {
     pub number: u64,
     pub ticks: usize,

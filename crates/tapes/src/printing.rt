@@ -11,7 +11,7 @@ use layout::Router;
 use pages::{Page, Paged};
 
 // What is printed of a tape: its lines, or its pages.
-#[derive(Drop)]
+#[derive(Clone, Copy)]
 pub enum Style {
     Lines,
     Pages,
