@@ -1,7 +1,7 @@
 -- What a turn of the programs' loop takes in and holds, what lies between turns, whether there is more to do, and what a whole run prints. Assumes nothing.
 use Rattle.std.specs.Io.KnownBytes.{Appends}
 use Rattle.std.specs.Prelude.{ℕ, ◌+◌, ◌≤◌, ◌<◌, ◌≡◌, Bool, not, ◌&&◌, List, length, take, drop, IfSome}
-use Rattle.core.specs.declared.option.Option.{Option}
+use Rattle.std.specs.declared.option.Option.{Option}
 use Rattle.records.specs.Records.{record_length}
 use Rattle.tapes.specs.declared.printing.Style.{Style}
 use Rattle.tapes.specs.declared.stepping.Place as Code

@@ -185,7 +185,7 @@ fn put_end(lines: &mut [u8], at: usize, style: Style, page: Page, ended: bool) -
 }
 
 // After a block's records: the place, the text's length, and whether it was written.
-#[derive(Clone, Copy)]
+#[derive(Drop)]
 struct Printed {
     place: Place,
     length: usize,
@@ -225,7 +225,7 @@ fn print_block<I, O: Write, E: Write>(
 }
 
 // After a turn: what came in, what was printed, and whether there is more to do.
-#[derive(Clone, Copy)]
+#[derive(Drop)]
 struct TurnEnd {
     input: Input,
     printed: Printed,
@@ -308,7 +308,7 @@ fn unread(place: Place) -> TurnEnd
 }
 
 // How the last turn ended, how many reads there were, one in each turn, and how many bytes they brought.
-#[derive(Clone, Copy)]
+#[derive(Drop)]
 struct Ran {
     end: TurnEnd,
     reads: u64,
@@ -340,17 +340,14 @@ fn run<I: Read, O: Write, E: Write>(
     let mut reads: u64 = 0;
     let mut bytes: u64 = 0;
     while end.more & (reads < READS) {
-        let printed = end.printed;
-        let place = printed.place;
+        let place = end.printed.place;
         let input = end.input;
         let held = input.held;
         end = turn(
             streams, name, style, state, memory, arrivals, place, held, block, lines,
         );
-        let input = end.input;
-        let reading = input.reading;
         reads += 1;
-        bytes += reading.count as u64;
+        bytes += end.input.reading.count as u64;
     }
     Ran { end, reads, bytes }
 }
