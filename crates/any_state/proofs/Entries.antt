@@ -90,16 +90,16 @@ module _ (B : Board) where
               delays = λ i h. ((connection i).0 (all-at (connection_sound B s) 256 i connections h)).0;
               masks = λ i h. ((connection i).0 (all-at (connection_sound B s) 256 i connections h)).1;
               horizons = λ p h. ltb-true _ _ (all-at (horizon_sound B s) 5 p horizons h);
-              register-1 = ltb-true _ _ first;
-              register-2 = leb-true _ _ (two.0 e₃).0;
-              register-4 = leb-true _ _ (two.0 e₃).1;
+              register_1 = ltb-true _ _ first;
+              register_2 = leb-true _ _ (two.0 e₃).0;
+              register_4 = leb-true _ _ (two.0 e₃).1;
             },
         λ p.
             parts.1 (
               all_true (connection_sound B s) 256 (λ i h. (connection i).1 (p.delays i h, p.masks i h)),
               others.1 (
                 all_true (horizon_sound B s) 5 (λ q h. lt-ltb _ _ (p.horizons q h)),
-                registers.1 (lt-ltb _ _ p.register-1, two.1 (le-leb _ _ p.register-2, le-leb _ _ p.register-4)),
+                registers.1 (lt-ltb _ _ p.register_1, two.1 (le-leb _ _ p.register_2, le-leb _ _ p.register_4)),
               ),
             ),
       )
@@ -118,8 +118,8 @@ module _ (B : Board) where
       record {
         count = count;
         different = different-at entry n once;
-        idle-empty = λ i k h l q. eqb-true _ _ (sym (same i h) ∙ elem_at entry i n k l q);
-        empty-idle = λ i h q. at-elem entry i n (same i h ∙ eq-eqb _ _ q);
+        idle_empty = λ i k h l q. eqb-true _ _ (sym (same i h) ∙ elem_at entry i n k l q);
+        empty_idle = λ i h q. at-elem entry i n (same i h ∙ eq-eqb _ _ q);
       }
 
   -- A slot's test compares being on it with being empty.
@@ -143,8 +143,8 @@ module _ (B : Board) where
       same p i h = go (ℕ_discrete (get s (Mask, i)) 0) (elem i (top_first entry n)) refl
         where
           go : Dec (get s (Mask, i) ≡ 0) → (t : Bool) → elem i (top_first entry n) ≡ t → elem i (top_first entry n) ≡ eqb (get s (Mask, i)) 0
-          go (yes q) t e = let (k, l, m) = p.empty-idle i h q in elem_at entry i n k l m ∙ sym (eq-eqb (get s (Mask, i)) 0 q)
-          go (no q) true e = let (k, l, m) = at-elem entry i n e in absurd (q (p.idle-empty i k h l m))
+          go (yes q) t e = let (k, l, m) = p.empty_idle i h q in elem_at entry i n k l m ∙ sym (eq-eqb (get s (Mask, i)) 0 q)
+          go (no q) true e = let (k, l, m) = at-elem entry i n e in absurd (q (p.idle_empty i k h l m))
           go (no q) false e = e ∙ sym (ne_eqb (get s (Mask, i)) 0 q)
 
   -- An empty slot is never bad.
@@ -168,12 +168,12 @@ module _ (B : Board) where
       let t₄ = and-iff (leb (get s (Mask, i)) 31) (ltb (delay_of B s i) (half c)) in (
         λ e n.
             let (e₁, header) = t₁.0 (held.0 e n) in
-            let (e₂, not-far) = t₂.0 e₁ in
+            let (e₂, not_far) = t₂.0 e₁ in
             let (e₃, not_late) = t₃.0 e₂ in
-            let (ports, in-range) = t₄.0 e₃ in
-            record { ports = leb-true _ _ ports; in-range = ltb-true _ _ in-range; not_late = (order-iff _ _).0 not_late; not-far = (order-iff _ _).0 not-far; header = eqb-true _ _ header },
+            let (ports, in_range) = t₄.0 e₃ in
+            record { ports = leb-true _ _ ports; in_range = ltb-true _ _ in_range; not_late = (order-iff _ _).0 not_late; not_far = (order-iff _ _).0 not_far; header = eqb-true _ _ header },
         λ p. held.1 (λ n. let x = p n in
-            t₁.1 (t₂.1 (t₃.1 (t₄.1 (le-leb _ _ x.ports, lt-ltb _ _ x.in-range), (order-iff _ _).1 x.not_late), (order-iff _ _).1 x.not-far), eq-eqb _ _ x.header)),
+            t₁.1 (t₂.1 (t₃.1 (t₄.1 (le-leb _ _ x.ports, lt-ltb _ _ x.in_range), (order-iff _ _).1 x.not_late), (order-iff _ _).1 x.not_far), eq-eqb _ _ x.header)),
       )
 
   -- All slots together.

@@ -147,7 +147,7 @@ module _ (B : Board) (L : Laws B) where
         let key = key-true (bits c) D u (record { le = omega (arith, orders) }) (record { lt = omega (arith, orders) }) in
         let delays : delay_of B s i ≡ d = ap₂ (minus (bits c)) P.deadline P.time ∙ omega (arith, ap up key, ap down key) in
         let late = rw (delays, offsets) at X.not_late.le in
-        let far = rw offsets at X.not-far.le in
+        let far = rw offsets at X.not_far.le in
         record {
           window = record {
             delay = d;
@@ -166,8 +166,8 @@ module _ (B : Board) (L : Laws B) where
       settings = record {
         entry = λ i l. record { delay = omega (arith, S.shown.delay i l, Q.sound.settings.delays i l); mask = omega (arith, S.shown.routes i l, Q.sound.settings.masks i l) };
         horizon = λ p l. omega (arith, S.shown.horizon p l, Q.sound.settings.horizons p l);
-        latch = record { delay = omega (arith, S.shown.latch 1 (omega arith), Q.sound.settings.register-1); mask = omega (arith, S.shown.latch 2 (omega arith), Q.sound.settings.register-2) };
-        ports = omega (arith, S.shown.latch 3 (omega arith), Q.sound.settings.register-4);
+        latch = record { delay = omega (arith, S.shown.latch 1 (omega arith), Q.sound.settings.register_1); mask = omega (arith, S.shown.latch 2 (omega arith), Q.sound.settings.register_2) };
+        ports = omega (arith, S.shown.latch 3 (omega arith), Q.sound.settings.register_4);
       };
       kept = kept;
       window = window;

@@ -144,8 +144,8 @@ module _ (B : Board) (L : Laws B) where
         let a = add-nat t o in
         let b = diff-nat (t +ℤ o) t in
         let late = x.not_late.le in
-        let far = x.not-far.le in
-        let range = x.in-range in
+        let far = x.not_far.le in
+        let range = x.in_range in
         record {
           from = record { le = omega (arith, orders, neg-nat (pos d), neg-nat (pos (half c))) };
           to = record { lt = omega (arith, orders) };
@@ -219,7 +219,7 @@ module _ (B : Board) (L : Laws B) where
   -- Whichever router a sound store shows, the calls keep the two related.
   pub agrees-from-sound : AgreesFromSound B
   agrees-from-sound = record {
-    shows-one = λ r Q. (router_of r, shows-router r Q);
+    shows_one = λ r Q. (router_of r, shows-router r Q);
     fresh = λ t h. rel-shows B L (fresh-rel B L t h) (start-good c t);
     agree = λ r Q w S ks P.
         let a = agreed B L ks (shows-rel B L Q S) (shows-good B L Q S) P in

@@ -42,7 +42,7 @@ module _ (B : Board) where
 
   -- Each sound store shows a router, a fresh one the router at its start; and whichever router it shows, over every proper list of calls both give the same replies, and the store stays sound and shows the router.
   pub record AgreesFromSound : Type 0 where
-    pub shows-one : (r : Store) → SoundStore r → (w : Router) × Shows r w
+    pub shows_one : (r : Store) → SoundStore r → (w : Router) × Shows r w
     pub fresh : (t : ℕ) → t < 2 ^ bits c → Shows (fresh B t) (start t)
     pub agree : (r : Store) → SoundStore r → (w : Router) → Shows r w → (ks : List Call) → Proper c w.clock ks → let r' = after_all (byte_step B) r ks in
         (replies (byte_step B) r ks ≡ replies (whole_step c) w ks) × Sized B r' × Sound B r' × Shows r' (after_all (whole_step c) w ks)

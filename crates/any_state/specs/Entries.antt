@@ -22,16 +22,16 @@ module _ (B : Board) where
     pub delays : (i : ℕ) → i < 256 → get s (Delay, i) < half c
     pub masks : (i : ℕ) → i < 256 → get s (Routes, i) ≤ 31
     pub horizons : (p : ℕ) → p < 5 → get s (Horizon, p) < half c
-    pub register-1 : get s (Latch, 1) < half c
-    pub register-2 : get s (Latch, 2) ≤ 31
-    pub register-4 : get s (Latch, 3) ≤ 31
+    pub register_1 : get s (Latch, 1) < half c
+    pub register_2 : get s (Latch, 2) ≤ 31
+    pub register_4 : get s (Latch, 3) ≤ 31
 
   -- n is at most 256; the first n entries of the stack are different, and are exactly the slots with mask 0: a slot among them has it, and a slot that has it is among them.
   pub record StackSound (s : List ℕ) : Type 0 where
     pub count : get s free ≤ 256
     pub different : (i j : ℕ) → i < j → j < get s free → get s (Idle, i) ≢ get s (Idle, j)
-    pub idle-empty : (i k : ℕ) → i < 256 → k < get s free → get s (Idle, k) ≡ i → get s (Mask, i) ≡ 0
-    pub empty-idle : (i : ℕ) → i < 256 → get s (Mask, i) ≡ 0 → (k : ℕ) × (k < get s free) × (get s (Idle, k) ≡ i)
+    pub idle_empty : (i k : ℕ) → i < 256 → k < get s free → get s (Idle, k) ≡ i → get s (Mask, i) ≡ 0
+    pub empty_idle : (i : ℕ) → i < 256 → get s (Mask, i) ≡ 0 → (k : ℕ) × (k < get s free) × (get s (Idle, k) ≡ i)
 
   -- The delay of the packet in slot i, deadline - time, and the offset of its time.
   abbrev pub delay_of : List ℕ → ℕ → ℕ
@@ -43,9 +43,9 @@ module _ (B : Board) where
   -- A packet stored in slot i: its mask has five bits, its delay d is in range, the offset is - d to 126 on a clock of one byte, and the header in memory has the deadline.
   pub record StoredSound (r : Store) (i : ℕ) : Type 0 where
     pub ports : get r.state (Mask, i) ≤ 31
-    pub in-range : delay_of r.state i < half c
+    pub in_range : delay_of r.state i < half c
     pub not_late : neg_ℤ (pos (delay_of r.state i)) ≤ℤ offset_of r.state i
-    pub not-far : offset_of r.state i ≤ℤ pos (half c - 2)
+    pub not_far : offset_of r.state i ≤ℤ pos (half c - 2)
     pub header : stamp c (packet r.memory i) ≡ get r.state (Deadline, i)
 
   -- Every slot with a mask other than 0 holds a sound packet.

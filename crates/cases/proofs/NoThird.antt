@@ -70,14 +70,14 @@ idle-else e p x L q n = go (is_sent x (e.report.grant p)) refl
 -- Once the clock has passed its deadline, nothing is left of a packet.
 none_left : {h : List NotedTick} {w : Router} {p : ℕ} {x : Packet} → Account 1 h w x p → T (le_z (suc_ℤ x.deadline) w.clock) → left_on p x w.place ≡ 0
 none_left {w = w} {p = p} {x = x} C l =
-    ⊎_elim (λ z. z) (λ n. let k = (C.in-time n).le in absurd (omega (arith, orders, suc-nat x.deadline))) (eq-zero-or-pos (left_on p x w.place))
+    ⊎_elim (λ z. z) (λ n. let k = (C.in_time n).le in absurd (omega (arith, orders, suc-nat x.deadline))) (eq-zero-or-pos (left_on p x w.place))
 
 -- What is sent goes out with its bytes: it is the packet granted.
 sent-bytes : {T : ℤ} {h : List NotedTick} {w : Router} → Accounts 1 T h w → (x : Packet) (i : ℕ) → Accepted h x i → (d : NotedTick) → Memᴰ d h → (p : ℕ) → p < 5 → (g : Grant (ℕ × Packet)) → d.report.grant p ≡ g → is_sent x g ≡ true → PacketAt 1 d.outgoing p x
 unfolding is_sent
 sent-bytes A x i a d m p hp nobody e s = absurd (true≢false (sym s))
 sent-bytes A x i a d m p hp best_effort e s = absurd (true≢false (sym s))
-sent-bytes A x i a d m p hp (on_time (j, y)) e s = subst (PacketAt 1 d.outgoing p) (sym (A.unique x y i j a ((A.genuine d m p hp y).on-time j e) s).0) ((A.told d m p hp).on-time j y e).1
+sent-bytes A x i a d m p hp (on_time (j, y)) e s = subst (PacketAt 1 d.outgoing p) (sym (A.unique x y i j a ((A.genuine d m p hp y).on_time j e) s).0) ((A.told d m p hp).on_time j y e).1
 sent-bytes A x i a d m p hp (early (j, y)) e s = subst (PacketAt 1 d.outgoing p) (sym (A.unique x y i j a ((A.genuine d m p hp y).early j e) s).0) ((A.told d m p hp).early j y e).1
 
 pub no_third : NoThird

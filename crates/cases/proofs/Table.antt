@@ -12,8 +12,8 @@ use Rattle.cases.proofs.Rows.{all_meet}
 -- What is seen of the rows unfolds where this one does.
 seeing : ℕ
 unfolding computing R.listed R.expected_on_bytes R.expected_on_whole R.same_bytes R.fate_of R.before_whole R.arrived_whole R.reported R.candidate_on_whole R.on_whole Q.ports-left Q.by-places Q.by-router Q.runnable
-    S.table S.horizon96 S.horizon95 S.time210 S.time200 S.time199 S.time111 S.time112 S.time112-d127 S.time113-d127 S.time240-sent S.time240-withdrawn S.tie_on_time S.tie_early
-    S.time_decides S.time_decides-after-turn S.deadline_decides-past-127 S.deadline_decides-across-turn S.deadline_decides-after-turn
+    S.table S.horizon96 S.horizon95 S.time210 S.time200 S.time199 S.time111 S.time112 S.time112_d127 S.time113_d127 S.time240_sent S.time240_withdrawn S.tie_on_time S.tie_early
+    S.time_decides S.time_decides_after_turn S.deadline_decides_past_127 S.deadline_decides_across_turn S.deadline_decides_after_turn
 seeing = 0
 
 rows : AllMeet S.table

@@ -95,15 +95,15 @@ time111 = case (record { d = 40; horizon = 0; time = 111; u = pos 367 }) (idle s
 unfoldable pub time112 : Row
 time112 = case (record { d = 40; horizon = 0; time = 112; u = pos 112 }) (idle (refused 7)) []
 
-unfoldable pub time112-d127 : Row
-time112-d127 = case (record { d = 127; horizon = 0; time = 112; u = pos 112 }) (idle (refused 7)) []
+unfoldable pub time112_d127 : Row
+time112_d127 = case (record { d = 127; horizon = 0; time = 112; u = pos 112 }) (idle (refused 7)) []
 
-unfoldable pub time113-d127 : Row
-time113-d127 = case (record { d = 127; horizon = 0; time = 113; u = pos 113 }) (sends_on_time (as33 240) stored) (is_on_time 0 (as33 240) 0 127 sent ∷ [])
+unfoldable pub time113_d127 : Row
+time113_d127 = case (record { d = 127; horizon = 0; time = 113; u = pos 113 }) (sends_on_time (as33 240) stored) (is_on_time 0 (as33 240) 0 127 sent ∷ [])
 
 -- "time 240, d = 0: sent in this tick or withdrawn in it": sent.
-unfoldable pub time240-sent : Row
-time240-sent = case (record { d = 0; horizon = 0; time = 240; u = pos 240 }) (sends_on_time (as33 240) stored) (is_on_time 0 (as33 240) 0 0 sent ∷ [])
+unfoldable pub time240_sent : Row
+time240_sent = case (record { d = 0; horizon = 0; time = 240; u = pos 240 }) (sends_on_time (as33 240) stored) (is_on_time 0 (as33 240) 0 0 sent ∷ [])
 
 -- ---- two packets for port 0
 
@@ -112,8 +112,8 @@ abbrev pub other33 : ℕ → List ℕ
 other33 D = packet_with 101 33 D
 
 -- And withdrawn: two such packets arrive, on ports 0 and 1; slot 0's is sent, and slot 1's withdrawn.
-unfoldable pub time240-withdrawn : Row
-time240-withdrawn = record {
+unfoldable pub time240_withdrawn : Row
+time240_withdrawn = record {
   from = 240;
   earlier = opened 0 0;
   clock = pos 240;
@@ -175,28 +175,28 @@ time_decides =
     (sends_on_time (other33 250) (replicate 5 1)) (is_on_time 2 (as35 250) 10 0 left ∷ is_on_time 9 (other33 250) 10 30 sent ∷ [])
 
 -- The same after the clock's turn, at t = 0: the plain bytes, 246 in slot 9 and 0 in slot 2, would choose slot 2.
-unfoldable pub time_decides-after-turn : Row
-time_decides-after-turn =
+unfoldable pub time_decides_after_turn : Row
+time_decides_after_turn =
     tie (record { from = 255; horizon = 0; slot2 = record { d = 10; time = 0; u = pos 256 }; slot9 = record { d = 20; time = 246; u = pos 246 } })
     (sends_on_time (other33 10) (replicate 5 1)) (is_on_time 2 (as35 10) 10 0 left ∷ is_on_time 9 (other33 10) 10 10 sent ∷ [])
 
 -- Among equal early keys the earlier deadline goes first (document 02, [4]): slot 9's, at t + 106. The slot alone would choose slot 2, and so would the deadlines' offsets with sign:
 -- slot 2's deadline is at t + 136, past t + 127, and its offset -120.
-unfoldable pub deadline_decides-past-127 : Row
-deadline_decides-past-127 =
+unfoldable pub deadline_decides_past_127 : Row
+deadline_decides_past_127 =
     tie (record { from = 239; horizon = 96; slot2 = record { d = 40; time = 80; u = pos 336 }; slot9 = record { d = 10; time = 80; u = pos 336 } })
     (sends_early (other33 90) (replicate 5 1)) (is_early 2 (as35 120) 96 136 left ∷ is_early 9 (other33 90) 96 106 sent ∷ [])
 
 -- Deadlines on both sides of the clock's turn: the plain bytes, 251 in slot 9 and 25 in slot 2, would choose slot 2.
-unfoldable pub deadline_decides-across-turn : Row
-deadline_decides-across-turn =
+unfoldable pub deadline_decides_across_turn : Row
+deadline_decides_across_turn =
     tie (record { from = 239; horizon = 1; slot2 = record { d = 40; time = 241; u = pos 241 }; slot9 = record { d = 10; time = 241; u = pos 241 } })
     (sends_early (other33 251) (replicate 5 1)) (is_early 2 (as35 25) 1 41 left ∷ is_early 9 (other33 251) 1 11 sent ∷ [])
 
 -- After the clock's turn, at t = 0, both deadlines past t + 127, with the offsets -128 in slot 9 and -33 in slot 2: an order that treats -128 as 128 would choose slot 2,
 -- and so would one that takes all deadlines past t + 127 for the same.
-unfoldable pub deadline_decides-after-turn : Row
-deadline_decides-after-turn =
+unfoldable pub deadline_decides_after_turn : Row
+deadline_decides_after_turn =
     tie (record { from = 255; horizon = 96; slot2 = record { d = 127; time = 96; u = pos 352 }; slot9 = record { d = 32; time = 96; u = pos 352 } })
     (sends_early (other33 128) (replicate 5 1)) (is_early 2 (as35 223) 96 223 left ∷ is_early 9 (other33 128) 96 128 sent ∷ [])
 
@@ -204,8 +204,8 @@ deadline_decides-after-turn =
 
 unfoldable pub table : List Row
 table =
-    horizon96 ∷ horizon95 ∷ time210 ∷ time200 ∷ time199 ∷ time111 ∷ time112 ∷ time112-d127 ∷ time113-d127 ∷ time240-sent ∷ time240-withdrawn
-    ∷ tie_on_time ∷ tie_early ∷ time_decides ∷ time_decides-after-turn ∷ deadline_decides-past-127 ∷ deadline_decides-across-turn ∷ deadline_decides-after-turn ∷ []
+    horizon96 ∷ horizon95 ∷ time210 ∷ time200 ∷ time199 ∷ time111 ∷ time112 ∷ time112_d127 ∷ time113_d127 ∷ time240_sent ∷ time240_withdrawn
+    ∷ tie_on_time ∷ tie_early ∷ time_decides ∷ time_decides_after_turn ∷ deadline_decides_past_127 ∷ deadline_decides_across_turn ∷ deadline_decides_after_turn ∷ []
 
 -- What has to be seen is seen at both routers, and the calls are proper: their times are true.
 pub record Meets (r : Row) : Type 0 where

@@ -145,12 +145,12 @@ module _ (k x t : ℕ) (hx : x < 2 ^ suc k) (ht : t < 2 ^ suc k) where
 
 -- What an eligible packet's line is: by the case that holds of its time, with deadline - t by the case that holds of its deadline.
 pub key-line : {b x d t l : ℕ} {c : Case} → TheCase b c x t → AheadBy b d t l → Fig7 b true x d t (some (key_by b c x t l))
-key-line {b} {x} {d} {t} {l} {c} h (e, k, n) = record { time-case = c; deadline-case = e; time-holds = h; deadline-holds = k; seen = ap (λ (l : ℕ). some (key_by b c x t l)) n }
+key-line {b} {x} {d} {t} {l} {c} h (e, k, n) = record { time_case = c; deadline_case = e; time_holds = h; deadline_holds = k; seen = ap (λ (l : ℕ). some (key_by b c x t l)) n }
 
 -- It has the key.
 pub line-key : (k x d t : ℕ) → x < 2 ^ suc k → d < 2 ^ suc k → t < 2 ^ suc k → {r : Key} → Fig7 (suc k) true x d t (some r) → r ≡ key_of (suc k) x d t
 line-key k x d t hx hd ht F =
-    some_inj F.seen ∙ key-by-case k x t hx ht F.time-case F.time-holds.holds d _ (ahead-minus (suc k) d t hd ht (F.deadline-case, F.deadline-holds, refl))
+    some_inj F.seen ∙ key-by-case k x t hx ht F.time_case F.time_holds.holds d _ (ahead-minus (suc k) d t hd ht (F.deadline_case, F.deadline_holds, refl))
 
 -- An eligible packet sees its key, and any other is ineligible.
 pub key-seen : (k x d t : ℕ) → x < 2 ^ suc k → d < 2 ^ suc k → t < 2 ^ suc k → Fig7 (suc k) true x d t (some (key_of (suc k) x d t))
@@ -164,4 +164,4 @@ pub ineligible-seen : (b x d t : ℕ) → Fig7 b false x d t ineligible
 ineligible-seen b x d t =
     let (c, h) = exactly-one b x t in
     let (e, g) = exactly-one b d t in
-    record { time-case = c; deadline-case = e; time-holds = h; deadline-holds = g; seen = refl }
+    record { time_case = c; deadline_case = e; time_holds = h; deadline_holds = g; seen = refl }

@@ -54,11 +54,11 @@ line b eligible c e x d t = cond eligible (some (key_by b c x t (ahead_by b e d 
 
 -- It sees o: the line of the cases that hold.
 pub record Fig7 (b : ℕ) (eligible : Bool) (x d t : ℕ) (o : Option Key) : Type 0 where
-  pub time-case : Case
-  pub deadline-case : Case
-  pub time-holds : TheCase b time-case x t
-  pub deadline-holds : TheCase b deadline-case d t
-  pub seen : o ≡ line b eligible time-case deadline-case x d t
+  pub time_case : Case
+  pub deadline_case : Case
+  pub time_holds : TheCase b time_case x t
+  pub deadline_holds : TheCase b deadline_case d t
+  pub seen : o ≡ line b eligible time_case deadline_case x d t
 
 -- n is how far x is ahead of t, by the case that holds.
 abbrev pub AheadBy : ℕ → ℕ → ℕ → ℕ → Type 0

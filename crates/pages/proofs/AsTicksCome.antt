@@ -120,6 +120,6 @@ makes-pages n b (ticked records clock out ans ∷ es) h =
     (regroup (begun n b) (opening (page_with n b) ++ ended (tick_row t ∷ [])) c.text (goes_out c.page es)
     ∙ rw (begun-then n b t) (after-tick n b' es (omega arith) (omega arith) (λ l. makes-pages n b' es l) (makes-pages (next_number n) [] es (omega arith))))
 
-pub pages-as-ticks-come : PagesAsTicksCome
+pub pages_as_ticks_come : PagesAsTicksCome
 unfolding PagesAsTicksCome printed_pages pages_of total_of
-pages-as-ticks-come es = makes-pages 1 [] es (omega arith)
+pages_as_ticks_come es = makes-pages 1 [] es (omega arith)

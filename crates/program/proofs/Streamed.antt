@@ -6,7 +6,7 @@ use Rattle.std.specs.Io.KnownBytes.{Consumes, Appends, IsAtEnd}
 use Rattle.std.proofs.KnownBytes.{Consumes-nil, Consumes-trans, Appends-nil, Appends-trans}
 use Rattle.tapes.specs.declared.printing.Style.{Style}
 use Rattle.tapes.specs.Blocks.{Between, unread, Turn, turn, looped, ReadsPrintTheTape}
-use Rattle.tapes.proofs.Blocks.{reads-print-the-tape}
+use Rattle.tapes.proofs.Blocks.{reads_print_the_tape}
 use Rattle.program.specs.Turns.{PrintsTape}
 
 -- Turns before the input's end, over reads that took from `tape` what is not in `left`, have put their texts after `before`, which makes `after`.
@@ -63,5 +63,5 @@ unfolding ReadsPrintTheTape
 streamed_end {style} {tape} {left} {before} {after} {b} s ended read text q next more is e c end a =
     let o = looped style unread s.reads in
     let last : ◌≡◌ {A = Turn} (record { left = q; text = text }) (turn style true o.left read) = e ∙ ap (λ (k : Bool). turn style k b read) is ∙ ap (λ (p : Between). turn style true p read) s.between in
-    let whole = ap (λ (t : Turn). o.text ++ t.text) last ∙ reads-print-the-tape style s.reads read in
+    let whole = ap (λ (t : Turn). o.text ++ t.text) last ∙ reads_print_the_tape style s.reads read in
     given tape next (flatten s.reads ++ read) _ (Consumes-trans tape left next _ _ s.consumed c) end (subst (Appends before more) whole (Appends-trans before after more _ _ s.written a))

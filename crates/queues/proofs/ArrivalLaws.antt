@@ -124,7 +124,7 @@ module _ (B : Board) (L : Laws B) where
 
     -- The masks of the stack's entries are 0.
     entry-empty : (j : ℕ) → j < get r.state free → get r.state (Mask, get r.state (Idle, j)) ≡ 0
-    entry-empty j l = (stack-sound B L R G).idle-empty (get s (Idle, j)) j (addresses B L R G j l) l refl
+    entry-empty j l = (stack-sound B L R G).idle_empty (get s (Idle, j)) j (addresses B L R G j l) l refl
 
     module _ (arriving : ℕ) (area : List ℕ) (whole : length area ≡ 100) where
       -- ---- the packets of step 1 come in

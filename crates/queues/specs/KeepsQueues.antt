@@ -35,7 +35,7 @@ pub record ByTheArea (o : Outcome Bench) : Type 0 where
   pub outgoing : o.reply.outgoing ≡ packet_of 42 7 ++ packet_of 45 15 ++ replicate 60 0
   pub answers : o.reply.answers ≡ 1 ∷ 3 ∷ replicate 18 0
   pub slots : take 18 (drop 268 o.after.store.state) ≡ six_slots 0 0
-  pub on-time : take 4 o.after.queues ≡ 0 ∷ 2 ∷ 0 ∷ 1 ∷ []
+  pub on_time : take 4 o.after.queues ≡ 0 ∷ 2 ∷ 0 ∷ 1 ∷ []
   pub early : take 4 (drop 774 o.after.queues) ≡ 0 ∷ 2 ∷ 3 ∷ 4 ∷ []
 
 -- Of an engine by what it does with a call.

@@ -100,17 +100,17 @@ no_longer a (c ∷ cs) {v} x y six first = go (dec_lt (length cs) (length a)) (d
 -- Lines with the same number and refusal are the same.
 refused-same : {k q : ℕ} {l m : List ℕ} → RefusedLine k q l → RefusedLine k q m → l ≡ m
 refused-same R S =
-    let x = R.number-reads in
-    let y = S.number-reads in
+    let x = R.number_reads in
+    let y = S.number_reads in
     let long = no_longer R.number S.number x y R.six S.unpadded in
     let short = no_longer S.number R.number y x S.six R.unpadded in
     let number = (digits_same R.number S.number 0 0 (omega arith) x.digits y.digits (x.value ∙ sym y.value)).1 in
-    let refusal = reads-fixed R.refusal-reads 2 R.two ∙ sym (reads-fixed S.refusal-reads 2 S.two) in
+    let refusal = reads-fixed R.refusal_reads 2 R.two ∙ sym (reads-fixed S.refusal_reads 2 S.two) in
     R.parts ∙ ap₂ (λ (n r : List ℕ). 82 ∷ 32 ∷ n ++ (32 ∷ r)) number refusal ∙ sym S.parts
 
 pub refused-ended : {k q : ℕ} {l : List ℕ} → RefusedLine k q l → k < 10 ^ 20 → refused_line k q ≡ ended (l ∷ [])
 refused-ended {k} {q} {l} R few =
-    let small : q < 100 = rw R.two at (reads-below R.refusal-reads) in
+    let small : q < 100 = rw R.two at (reads-below R.refusal_reads) in
     rw (ended-one l, refused-same R (refused-reads k q few small)) (refused-line k q)
 
 -- ---- T lines
@@ -138,8 +138,8 @@ identifier-fixed i letter f l I =
 field_fixed : (code i : ℕ) (f : List ℕ) → length f ≡ 3 → PortField code i f → f ≡ field code i
 unfolding field
 field_fixed zero i f l P = P.nobody refl
-field_fixed (suc zero) i f l P = identifier-fixed i 78 f l (P.on-time refl)
-field_fixed (suc (suc zero)) i f l P = P.best-effort refl
+field_fixed (suc zero) i f l P = identifier-fixed i 78 f l (P.on_time refl)
+field_fixed (suc (suc zero)) i f l P = P.when_best_effort refl
 field_fixed (suc (suc (suc zero))) i f l P = identifier-fixed i 69 f l (P.early refl)
 field_fixed (suc (suc (suc (suc n)))) i f l P = absurd (omega (arith, P.known))
 
@@ -158,13 +158,13 @@ module _ {t : ℕ} {out ans l : List ℕ} (T : TickLine t out ans l) where
   length_three i h = length-take-le 3 (drop i l) (omega (arith, length-drop i l, T.width))
 
   clock-same : take 3 (drop 2 l) ≡ take 3 (drop 2 ours)
-  clock-same = reads-fixed T.clock-reads 3 (length_three 2 (omega arith)) ∙ sym (clock-part t out ans)
+  clock-same = reads-fixed T.clock_reads 3 (length_three 2 (omega arith)) ∙ sym (clock-part t out ans)
 
   port-same : (p : ℕ) → p < 5 → take 3 (drop (6 + 4 * p) l) ≡ take 3 (drop (6 + 4 * p) ours)
   port-same p h = field_fixed (byte ans p) (byte out (20 * p)) (take 3 (drop (6 + 4 * p) l)) (length_three (6 + 4 * p) (omega arith)) (T.ports p h) ∙ sym (port-field t out ans p h)
 
   count_same : drop 26 l ≡ drop 26 ours
-  count_same = reads-fixed T.withdrawn-reads 4 (omega (arith, length-drop 26 l, T.width)) ∙ ap (decimal 4) (sym (sum t out ans)) ∙ sym (count-part t out ans)
+  count_same = reads-fixed T.withdrawn_reads 4 (omega (arith, length-drop 26 l, T.width)) ∙ ap (decimal 4) (sym (sum t out ans)) ∙ sym (count-part t out ans)
 
   -- By the places: the number withdrawn, the letter, the spaces, the clock and the ports' fields.
   tick-fixed : l ≡ ours

@@ -53,10 +53,10 @@ refused-reads k q hk hq =
       number = record_number k;
       refusal = decimal 2 q;
       parts = refl;
-      number-reads = decimal-reads (max 6 (digits_of k)) k (number-held k hk);
+      number_reads = decimal-reads (max 6 (digits_of k)) k (number-held k hk);
       six = omega arith;
       unpadded = λ l. long-unpadded k hk (omega arith);
-      refusal-reads = decimal-reads 2 q hq;
+      refusal_reads = decimal-reads 2 q hq;
       two = length-decimal 2 q;
     }
 
@@ -77,8 +77,8 @@ unfolding field
 port-reads code i known small = record {
   known = known;
   nobody = λ e. rw e;
-  on-time = λ e. rw e (identifier-reads i 78 small);
-  best-effort = λ e. rw e;
+  on_time = λ e. rw e (identifier-reads i 78 small);
+  when_best_effort = λ e. rw e;
   early = λ e. rw e (identifier-reads i 69 small);
 }
 
@@ -93,7 +93,7 @@ module _ (t : ℕ) (out ans : List ℕ) where
     width = length-tick-text t out ans;
     letter = refl;
     spaces = all-spaces t out ans;
-    clock-reads = rw (clock-part t out ans) (decimal-reads 3 t small);
+    clock_reads = rw (clock-part t out ans) (decimal-reads 3 t small);
     ports = λ p h. rw (port-field t out ans p h) (port-reads (byte ans p) (byte out (20 * p)) (known p h).0 (known p h).1);
-    withdrawn-reads = rw (count-part t out ans) (subst (Reads (decimal 4 (withdrawn_sum ans))) sum (decimal-reads 4 (withdrawn_sum ans) few));
+    withdrawn_reads = rw (count-part t out ans) (subst (Reads (decimal 4 (withdrawn_sum ans))) sum (decimal-reads 4 (withdrawn_sum ans) few));
   }

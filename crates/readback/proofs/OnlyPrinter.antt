@@ -34,7 +34,7 @@ use Rattle.pages.specs.Pages.{ended}
 use Rattle.pages.proofs.Lines.{ended-append}
 use Rattle.tapes.specs.declared.printing.Style.TheVariants.{Lines}
 use Rattle.tapes.specs.Printed.{refused_arrival, ticked_lines, event_lines, lines_of, printed}
-use Rattle.readback.specs.TapePrinted.{RefusedLine, TickLine, Waiting, Between, waits_on, IsArrival, IsTick, Unfit, no_kind, no-control, no-arrival, no-tick, occupied, Answered, Brings, Refusals, Step, Prints, TapePrinted, OnlyPrinter}
+use Rattle.readback.specs.TapePrinted.{RefusedLine, TickLine, Waiting, Between, waits_on, IsArrival, IsTick, Unfit, no_kind, no_control, no_arrival, no_tick, occupied, Answered, Brings, Refusals, Step, Prints, TapePrinted, OnlyPrinter}
 use Rattle.readback.specs.TapePrinted as Said
 use Rattle.readback.specs.Example.{example_tape, example_lines, PrintsTheExample}
 use Rattle.readback.proofs.Small.{Small, part_small}
@@ -89,7 +89,7 @@ module _ {σ : Between} {w : ℕ} {a b : TickCall} (A : Brings σ w a) (B : Brin
   mask-brought = masks-same a.arriving b.arriving A.ports B.ports (λ p h. go p h (waits_on σ p) refl)
     where
       go : (p : ℕ) → p < 5 → (o : Waiting) → waits_on σ p ≡ o → has a.arriving p ≡ has b.arriving p
-      go p h none e = A.none-else p h e ∙ sym (B.none-else p h e)
+      go p h none e = A.none_else p h e ∙ sym (B.none_else p h e)
       go p h (some (n, x)) e = (A.arrival p h n x e).0 ∙ sym (B.arrival p h n x e).0
 
   packet-brought : (p : ℕ) → p < 5 → has a.arriving p ≡ true → packet a.arrivals p ≡ packet b.arrivals p
@@ -99,7 +99,7 @@ module _ {σ : Between} {w : ℕ} {a b : TickCall} (A : Brings σ w a) (B : Brin
       long c e = length-packet c.arrivals p (omega arith)
 
       go : (o : Waiting) → waits_on σ p ≡ o → packet a.arrivals p ≡ packet b.arrivals p
-      go none e = absurd (true≢false (sym t ∙ A.none-else p h e))
+      go none e = absurd (true≢false (sym t ∙ A.none_else p h e))
       go (some (n, x)) e = ext_get_or 0 (packet a.arrivals p) (packet b.arrivals p) (long a A.whole ∙ sym (long b B.whole)) (λ j l.
           let m : j < 20 = omega (arith, long a A.whole) in
           rw (packet-byte a.arrivals p j m, packet-byte b.arrivals p j m) ((A.arrival p h n x e).1 j m ∙ sym ((B.arrival p h n x e).1 j m)))
@@ -108,7 +108,7 @@ module _ {σ : Between} {w : ℕ} {a b : TickCall} (A : Brings σ w a) (B : Brin
   unfolding byte_step
   call-brought r out ans =
       entry-same r a.arriving a.best_effort a.arrivals b.arrivals packet-brought (A.whole ∙ sym B.whole) out ans
-      ∙ ap₂ (λ (m v : ℕ). tick_entry board8 r m v b.arrivals out ans) mask-brought (A.best-effort ∙ sym B.best-effort)
+      ∙ ap₂ (λ (m v : ℕ). tick_entry board8 r m v b.arrivals out ans) mask-brought (A.when_best_effort ∙ sym B.when_best_effort)
 
 -- ---- a record
 
@@ -119,9 +119,9 @@ Ours t ls τ = (event_lines t.event ≡ ended ls) × (between t.tape ≡ τ)
 module _ (k : ℕ) (σ : Tape) (r : List ℕ) (whole : length r ≡ 24) (bytes : Small r) (L : Lawful k σ) (few : suc k < 10 ^ 20) where
   unfit-taken : (n : ℕ) → Unfit (between σ) r n → take_record σ (suc k) r ≡ record { tape = σ; event = refused (suc k) n }
   unfit-taken n (no_kind e a b c) = rw e (other-taken k σ r whole a b c)
-  unfit-taken n (no-control e c f) = rw e (control-taken k σ r whole c false (fails _ (λ t. f (record { kind = c; unused = blank-zeros r whole 21 3 refl t }))))
-  unfit-taken n (no-arrival e c f) = rw e (arrival-taken k σ r whole c false (has σ.pending (byte r 1)) (fails _ (λ t. f (arrival-fit r whole c t))) refl)
-  unfit-taken n (no-tick e c f) = rw e (tick-taken k σ r whole c false (fails _ (λ t. f (record { kind = c; unused = blank-zeros r whole 22 2 refl t }))))
+  unfit-taken n (no_control e c f) = rw e (control-taken k σ r whole c false (fails _ (λ t. f (record { kind = c; unused = blank-zeros r whole 21 3 refl t }))))
+  unfit-taken n (no_arrival e c f) = rw e (arrival-taken k σ r whole c false (has σ.pending (byte r 1)) (fails _ (λ t. f (arrival-fit r whole c t))) refl)
+  unfit-taken n (no_tick e c f) = rw e (tick-taken k σ r whole c false (fails _ (λ t. f (record { kind = c; unused = blank-zeros r whole 22 2 refl t }))))
   unfit-taken n (occupied e c f) = rw e (arrival-taken k σ r whole c.kind true true (fit-passes r whole c) (go (has σ.pending (byte r 1)) refl))
     where
       go : (t : Bool) → has σ.pending (byte r 1) ≡ t → t ≡ true
@@ -136,7 +136,7 @@ module _ (k : ℕ) (σ : Tape) (r : List ℕ) (whole : length r ≡ 24) (bytes :
   -- The refusals of an accepted tick's arrivals, port by port.
   refusals-ours : {ans : List ℕ} {p : ℕ} {ls : List (List ℕ)} → Refusals (between σ) ans p ls → p ≤ 5 → ports_below (refused_arrival σ.records ans) p ≡ ended ls
   unfolding ports_below refused_arrival ended
-  refusals-ours Said.no-port h = refl
+  refusals-ours Said.no_port h = refl
   refusals-ours {ans} (Said.taken {p = p} {ls = ls} a R) h = rw (lt-leb 6 (byte ans (5 + p)) a, append-nil) (refusals-ours R (omega arith))
   refusals-ours {ans} (Said.refused {p = p} {ls = ls} n x l w a N R) h =
       let e = sym (ap (λ (z : ℕ × List ℕ). z.0) (waits-some σ p h (n, x) w).1) in
@@ -173,7 +173,7 @@ module _ (k : ℕ) (σ : Tape) (r : List ℕ) (whole : length r ≡ 24) (bytes :
       let free = waits-none σ (byte r 1) (let h = c.port in omega arith) w in
       rw (arrival-taken k σ r whole c.kind true false (fit-passes r whole c) free, e) (kept-ours c free s)
   step-ours (Said.ticked t c out ans B lo la before l (n, R, T, s) e) = rw (tick-brought t c B out ans lo la, e) (ticked-ours (byte_step board8 σ.store (tick c out ans)) n R T s)
-  step-ours (Said.turned-away t c out ans B lo la l (n, R, s) e) = rw (tick-brought t c B out ans lo la, e) (turned-away-ours (byte_step board8 σ.store (tick c out ans)) n R s)
+  step-ours (Said.turned_away t c out ans B lo la l (n, R, s) e) = rw (tick-brought t c B out ans lo la, e) (turned-away-ours (byte_step board8 σ.store (tick c out ans)) n R s)
 
 -- ---- an input
 

@@ -34,7 +34,7 @@ use Rattle.text.specs.Lines.{tick_text, tick_line, refused_line}
 use Rattle.text.proofs.Characters.{cut_line, no-feed-tick-text}
 use Rattle.pages.proofs.Withdrawn.{tick-at-most-1280}
 use Rattle.tapes.specs.Printed.{refused_arrival, ticked_lines, event_lines}
-use Rattle.readback.specs.TapePrinted.{TickLine, Waiting, Between, waits_on, IsControl, IsArrival, IsTick, ZeroFrom, Unfit, no_kind, no-control, no-arrival, no-tick, occupied, Brings, Refusals, no-port, taken, Step, unfit, kept, turned-away}
+use Rattle.readback.specs.TapePrinted.{TickLine, Waiting, Between, waits_on, IsControl, IsArrival, IsTick, ZeroFrom, Unfit, no_kind, no_control, no_arrival, no_tick, occupied, Brings, Refusals, no_port, taken, Step, unfit, kept, turned_away}
 use Rattle.readback.specs.TapePrinted as Said
 use Rattle.readback.proofs.LinesRead.{refused_text, refused-line, no-feed-refused, refused-reads, tick-reads}
 use Rattle.readback.proofs.Small.{Small, SmallStore, zeros-small, sets-small, part_small, written_small, arrived-small, ticked-small}
@@ -336,7 +336,7 @@ module _ (k : ℕ) (σ : Tape) (r : List ℕ) (whole : length r ≡ 24) (bytes :
     where
       go : (b : Bool) → blank_part r 3 24 ≡ b → Done (suc k) σ r (take_record σ (suc k) r)
       go true f = subst (Done (suc k) σ r) (sym (control-taken k σ r whole e true f)) (written-done (record { kind = e; unused = blank-zeros r whole 21 3 refl f }))
-      go false f = subst (Done (suc k) σ r) (sym (control-taken k σ r whole e false f)) (refused-done 11 (omega arith) (no-control refl e (λ c. true≢false (sym (zeros-blank r whole 21 3 refl c.unused) ∙ f))))
+      go false f = subst (Done (suc k) σ r) (sym (control-taken k σ r whole e false f)) (refused-done 11 (omega arith) (no_control refl e (λ c. true≢false (sym (zeros-blank r whole 21 3 refl c.unused) ∙ f))))
 
   -- ---- an arrival
 
@@ -397,7 +397,7 @@ module _ (k : ℕ) (σ : Tape) (r : List ℕ) (whole : length r ≡ 24) (bytes :
           let some-packet : waits_on (between σ) port ≡ some (get_or σ.records port 0, packet σ.arrivals port) = waits-on σ port (let h = c.port in omega arith) ∙ rw g in
           subst (Done (suc k) σ r) (sym (arrival-taken k σ r whole e true true f g)) (refused-done 12 (omega arith) (occupied refl c (λ z. none-some (sym z ∙ some-packet))))
       go true false f g = subst (Done (suc k) σ r) (sym (arrival-taken k σ r whole e true false f g)) (kept-done (arrival-fit r whole e f) g)
-      go false b f g = subst (Done (suc k) σ r) (sym (arrival-taken k σ r whole e false b f g)) (refused-done 11 (omega arith) (no-arrival refl e (λ c. true≢false (sym (fit-passes r whole c) ∙ f))))
+      go false b f g = subst (Done (suc k) σ r) (sym (arrival-taken k σ r whole e false b f g)) (refused-done 11 (omega arith) (no_arrival refl e (λ c. true≢false (sym (fit-passes r whole c) ∙ f))))
 
   -- ---- a tick
 
@@ -409,10 +409,10 @@ module _ (k : ℕ) (σ : Tape) (r : List ℕ) (whole : length r ≡ 24) (bytes :
 
   pub brings : Brings (between σ) (byte r 1) call
   brings = record {
-    best-effort = refl;
+    when_best_effort = refl;
     ports = L.pending;
     whole = L.whole;
-    none-else = waits-none σ;
+    none_else = waits-none σ;
     arrival = λ p h n x e. let (t, y) = waits-some σ p h (n, x) e in (t, λ j l. sym (packet-byte σ.arrivals p j l) ∙ ap (λ (z : ℕ × List ℕ). byte z.1 j) y);
   }
 
@@ -420,7 +420,7 @@ module _ (k : ℕ) (σ : Tape) (r : List ℕ) (whole : length r ≡ 24) (bytes :
   refusals-said : (ans : List ℕ) → ((p : ℕ) → p < 5 → (byte ans (5 + p) < 6) ⊎ ((has σ.pending p ≡ true) × (6 ≤ byte ans (5 + p)) × (byte ans (5 + p) ≤ 8)))
       → (p : ℕ) → p ≤ 5 → (ls : List (List ℕ)) × CutsTo (ports_below (refused_arrival σ.records ans) p) ls × Refusals (between σ) ans p ls
   unfolding ports_below refused_arrival
-  refusals-said ans known zero l = ([], cuts-none, no-port)
+  refusals-said ans known zero l = ([], cuts-none, no_port)
   refusals-said ans known (suc p) l = go (known p (omega arith)) (refusals-said ans known p (omega arith))
     where
       a : ℕ
@@ -482,7 +482,7 @@ module _ (k : ℕ) (σ : Tape) (r : List ℕ) (whole : length r ≡ 24) (bytes :
       (record {
         lines = l ∷ [];
         cut = cuts-refused (suc k) n;
-        step = turned-away c call (zeros 100) (zeros 20) brings refl refl l (rw (e, ne_eqb n 0 other) (other, refused-reads (suc k) n few small, refl)) refl;
+        step = turned_away c call (zeros 100) (zeros 20) brings refl refl l (rw (e, ne_eqb n 0 other) (other, refused-reads (suc k) n few small, refl)) refl;
         lawful = later;
       })
 
@@ -502,7 +502,7 @@ module _ (k : ℕ) (σ : Tape) (r : List ℕ) (whole : length r ≡ 24) (bytes :
     where
       go : (b : Bool) → blank_part r 2 24 ≡ b → Done (suc k) σ r (take_record σ (suc k) r)
       go true f = subst (Done (suc k) σ r) (sym (tick-taken k σ r whole e true f)) (ticked-done (record { kind = e; unused = blank-zeros r whole 22 2 refl f }))
-      go false f = subst (Done (suc k) σ r) (sym (tick-taken k σ r whole e false f)) (refused-done 11 (omega arith) (no-tick refl e (λ c. true≢false (sym (zeros-blank r whole 22 2 refl c.unused) ∙ f))))
+      go false f = subst (Done (suc k) σ r) (sym (tick-taken k σ r whole e false f)) (refused-done 11 (omega arith) (no_tick refl e (λ c. true≢false (sym (zeros-blank r whole 22 2 refl c.unused) ∙ f))))
 
   -- ---- by its kind
 

@@ -16,10 +16,10 @@ pub record RefusedLine (k q : ℕ) (line : List ℕ) : Type 0 where
   pub number : List ℕ
   pub refusal : List ℕ
   pub parts : line ≡ 82 ∷ 32 ∷ number ++ (32 ∷ refusal)
-  pub number-reads : Reads number k
+  pub number_reads : Reads number k
   pub six : 6 ≤ length number
   pub unpadded : 6 < length number → byte number 0 ≢ 48
-  pub refusal-reads : Reads refusal q
+  pub refusal_reads : Reads refusal q
   pub two : length refusal ≡ 2
 
 -- A capital hex digit of the value d.
@@ -39,8 +39,8 @@ pub record Identifier (i letter : ℕ) (field : List ℕ) : Type 0 where
 pub record PortField (answer identifier : ℕ) (field : List ℕ) : Type 0 where
   pub known : answer ≤ 3
   pub nobody : answer ≡ 0 → field ≡ 45 ∷ 45 ∷ 45 ∷ []
-  pub on-time : answer ≡ 1 → Identifier identifier 78 field
-  pub best-effort : answer ≡ 2 → field ≡ 98 ∷ 101 ∷ 102 ∷ []
+  pub on_time : answer ≡ 1 → Identifier identifier 78 field
+  pub when_best_effort : answer ≡ 2 → field ≡ 98 ∷ 101 ∷ 102 ∷ []
   pub early : answer ≡ 3 → Identifier identifier 69 field
 
 -- How many packets the answers say were withdrawn on port p.
@@ -52,9 +52,9 @@ pub record TickLine (clock : ℕ) (out ans line : List ℕ) : Type 0 where
   pub width : length line ≡ 30
   pub letter : byte line 0 ≡ 84
   pub spaces : (i : ℕ) → i < 7 → byte line (1 + 4 * i) ≡ 32
-  pub clock-reads : Reads (take 3 (drop 2 line)) clock
+  pub clock_reads : Reads (take 3 (drop 2 line)) clock
   pub ports : (p : ℕ) → p < 5 → PortField (byte ans p) (byte out (20 * p)) (take 3 (drop (6 + 4 * p) line))
-  pub withdrawn-reads : Reads (drop 26 line) (withdrawn_on ans 0 + withdrawn_on ans 1 + withdrawn_on ans 2 + withdrawn_on ans 3 + withdrawn_on ans 4)
+  pub withdrawn_reads : Reads (drop 26 line) (withdrawn_on ans 0 + withdrawn_on ans 1 + withdrawn_on ans 2 + withdrawn_on ans 3 + withdrawn_on ans 4)
 
 -- ---- records
 
@@ -90,9 +90,9 @@ pub record IsTick (r : List ℕ) : Type 0 where
 -- Why a whole record has the refusal n: 10 another kind, 11 an unused byte that isn't zero or an arrival's port above 4, 12 a port that has a packet for the coming tick.
 pub data Unfit (σ : Between) (r : List ℕ) (n : ℕ) : Type 0 where
   no_kind : n ≡ 10 → byte r 0 ≢ 67 → byte r 0 ≢ 65 → byte r 0 ≢ 84 → Unfit σ r n
-  no-control : n ≡ 11 → byte r 0 ≡ 67 → (IsControl r → ⊥) → Unfit σ r n
-  no-arrival : n ≡ 11 → byte r 0 ≡ 65 → (IsArrival r → ⊥) → Unfit σ r n
-  no-tick : n ≡ 11 → byte r 0 ≡ 84 → (IsTick r → ⊥) → Unfit σ r n
+  no_control : n ≡ 11 → byte r 0 ≡ 67 → (IsControl r → ⊥) → Unfit σ r n
+  no_arrival : n ≡ 11 → byte r 0 ≡ 65 → (IsArrival r → ⊥) → Unfit σ r n
+  no_tick : n ≡ 11 → byte r 0 ≡ 84 → (IsTick r → ⊥) → Unfit σ r n
   occupied : n ≡ 12 → IsArrival r → waits_on σ (byte r 1) ≢ none → Unfit σ r n
 
 -- ---- calls
@@ -104,15 +104,15 @@ pub data Answered (k n : ℕ) (ls : List (List ℕ)) : Type 0 where
 
 -- The call of a tick brings just the arrivals that wait, each in its port's place; best-effort's mask is b.
 pub record Brings (σ : Between) (b : ℕ) (k : TickCall) : Type 0 where
-  pub best-effort : k.best_effort ≡ b
+  pub when_best_effort : k.best_effort ≡ b
   pub ports : k.arriving < 32
   pub whole : length k.arrivals ≡ 100
-  pub none-else : (p : ℕ) → p < 5 → waits_on σ p ≡ none → has k.arriving p ≡ false
+  pub none_else : (p : ℕ) → p < 5 → waits_on σ p ≡ none → has k.arriving p ≡ false
   pub arrival : (p : ℕ) → p < 5 → (n : ℕ) (x : List ℕ) → waits_on σ p ≡ some (n, x) → (has k.arriving p ≡ true) × ((j : ℕ) → j < 20 → byte k.arrivals (20 * p + j) ≡ byte x j)
 
 -- The refusals 6 to 8 of a tick on the ports below p, in port order, each under its arrival's record.
 pub data Refusals (σ : Between) (ans : List ℕ) : ℕ → List (List ℕ) → Type 0 where
-  no-port : Refusals σ ans 0 []
+  no_port : Refusals σ ans 0 []
   taken : {p : ℕ} {ls : List (List ℕ)} → byte ans (5 + p) < 6 → Refusals σ ans p ls → Refusals σ ans (suc p) ls
   refused : {p : ℕ} {ls : List (List ℕ)} (n : ℕ) (x l : List ℕ) → waits_on σ p ≡ some (n, x) → (6 ≤ byte ans (5 + p)) × (byte ans (5 + p) ≤ 8) → RefusedLine n (byte ans (5 + p)) l → Refusals σ ans p ls
       → Refusals σ ans (suc p) (ls ++ (l ∷ []))
@@ -133,7 +133,7 @@ pub data Step (k : ℕ) (σ : Between) (r : List ℕ) (ls : List (List ℕ)) (σ
       (o.reply.number ≡ 0) × Refusals σ o.reply.answers 5 before × TickLine (byte σ.store.state 0) o.reply.outgoing o.reply.answers l × (σ' ≡ record { store = o.after; waits = replicate 5 none }))
       → ls ≡ before ++ (l ∷ []) → Step k σ r ls σ'
   -- A refused one keeps them.
-  turned-away : IsTick r → (b : TickCall) (out ans : List ℕ) → Brings σ (byte r 1) b → length out ≡ 100 → length ans ≡ 20 → (l : List ℕ)
+  turned_away : IsTick r → (b : TickCall) (out ans : List ℕ) → Brings σ (byte r 1) b → length out ≡ 100 → length ans ≡ 20 → (l : List ℕ)
       → (let o = byte_step board8 σ.store (tick b out ans) in (o.reply.number ≢ 0) × RefusedLine k o.reply.number l × (σ' ≡ record { store = o.after; waits = σ.waits }))
       → ls ≡ l ∷ [] → Step k σ r ls σ'
 

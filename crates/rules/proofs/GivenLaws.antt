@@ -112,27 +112,27 @@ module _ (c : ℕ) where
     silent k n = record {
       entry = λ i. rw (n 3) (S.entry i);
       horizon = λ p. rw (n 5) (S.horizon p);
-      register-0 = rw (n 0) S.register-0;
-      register-1 = rw (n 1) S.register-1;
-      register-2 = rw (n 2) S.register-2;
-      register-4 = rw (n 4) S.register-4;
+      register_0 = rw (n 0) S.register_0;
+      register_1 = rw (n 1) S.register_1;
+      register_2 = rw (n 2) S.register_2;
+      register_4 = rw (n 4) S.register_4;
     }
 
     -- An accepted write is the last of its register, and a commit takes what the registers held. Register by register.
     accepted-kept : (register v : ℕ) → eqb (number_due c (control register v)) 0 ≡ true → AsWritten c (control register v ∷ past) (written register v w)
     unfolding last_written last_entry last_horizon writes value written put
-    accepted-kept zero v e = record { entry = λ i. rw e (S.entry i); horizon = λ p. rw e (S.horizon p); register-0 = rw e; register-1 = rw e S.register-1; register-2 = rw e S.register-2; register-4 = rw e S.register-4 }
-    accepted-kept (suc zero) v e = record { entry = λ i. rw e (S.entry i); horizon = λ p. rw e (S.horizon p); register-0 = rw e S.register-0; register-1 = rw e; register-2 = rw e S.register-2; register-4 = rw e S.register-4 }
-    accepted-kept (suc (suc zero)) v e = record { entry = λ i. rw e (S.entry i); horizon = λ p. rw e (S.horizon p); register-0 = rw e S.register-0; register-1 = rw e S.register-1; register-2 = rw e; register-4 = rw e S.register-4 }
-    accepted-kept (suc (suc (suc zero))) v e = record { entry = λ i. rw (e, S.entry i, S.register-0, S.register-1, S.register-2); horizon = λ p. rw e (S.horizon p); register-0 = rw e S.register-0; register-1 = rw e S.register-1; register-2 = rw e S.register-2; register-4 = rw e S.register-4 }
-    accepted-kept (suc (suc (suc (suc zero)))) v e = record { entry = λ i. rw e (S.entry i); horizon = λ p. rw e (S.horizon p); register-0 = rw e S.register-0; register-1 = rw e S.register-1; register-2 = rw e S.register-2; register-4 = rw e }
-    accepted-kept (suc (suc (suc (suc (suc zero))))) v e = record { entry = λ i. rw e (S.entry i); horizon = λ p. rw (e, S.horizon p, S.register-4); register-0 = rw e S.register-0; register-1 = rw e S.register-1; register-2 = rw e S.register-2; register-4 = rw e S.register-4 }
+    accepted-kept zero v e = record { entry = λ i. rw e (S.entry i); horizon = λ p. rw e (S.horizon p); register_0 = rw e; register_1 = rw e S.register_1; register_2 = rw e S.register_2; register_4 = rw e S.register_4 }
+    accepted-kept (suc zero) v e = record { entry = λ i. rw e (S.entry i); horizon = λ p. rw e (S.horizon p); register_0 = rw e S.register_0; register_1 = rw e; register_2 = rw e S.register_2; register_4 = rw e S.register_4 }
+    accepted-kept (suc (suc zero)) v e = record { entry = λ i. rw e (S.entry i); horizon = λ p. rw e (S.horizon p); register_0 = rw e S.register_0; register_1 = rw e S.register_1; register_2 = rw e; register_4 = rw e S.register_4 }
+    accepted-kept (suc (suc (suc zero))) v e = record { entry = λ i. rw (e, S.entry i, S.register_0, S.register_1, S.register_2); horizon = λ p. rw e (S.horizon p); register_0 = rw e S.register_0; register_1 = rw e S.register_1; register_2 = rw e S.register_2; register_4 = rw e S.register_4 }
+    accepted-kept (suc (suc (suc (suc zero)))) v e = record { entry = λ i. rw e (S.entry i); horizon = λ p. rw e (S.horizon p); register_0 = rw e S.register_0; register_1 = rw e S.register_1; register_2 = rw e S.register_2; register_4 = rw e }
+    accepted-kept (suc (suc (suc (suc (suc zero))))) v e = record { entry = λ i. rw e (S.entry i); horizon = λ p. rw (e, S.horizon p, S.register_4); register_0 = rw e S.register_0; register_1 = rw e S.register_1; register_2 = rw e S.register_2; register_4 = rw e S.register_4 }
     accepted-kept (suc (suc (suc (suc (suc (suc n)))))) v e = absurd (true≢false (sym e ∙ no_register n v))
 
     -- A tick leaves the settings.
     tick-kept : (k : TickCall) → AsWritten c past (ticked c w k).router
     unfolding ticked
-    tick-kept k = subst (λ (r : Router). AsWritten c past (advanced r)) (sym (ended-frame c w k)) (record { entry = S.entry; horizon = S.horizon; register-0 = S.register-0; register-1 = S.register-1; register-2 = S.register-2; register-4 = S.register-4 })
+    tick-kept k = subst (λ (r : Router). AsWritten c past (advanced r)) (sym (ended-frame c w k)) (record { entry = S.entry; horizon = S.horizon; register_0 = S.register_0; register_1 = S.register_1; register_2 = S.register_2; register_4 = S.register_4 })
 
   -- So each call keeps it: a refused one writes nothing, and neither does a tick.
   pub step_kept : {past : List Call} {w : Router} → AsWritten c past w → (k : Call) → AsWritten c (k ∷ past) (whole_step c w k).after
@@ -157,7 +157,7 @@ module _ (c : ℕ) where
   -- At first everything is 0.
   pub start-written : (t : ℕ) → AsWritten c [] (start t)
   unfolding start last_written last_entry last_horizon
-  start-written t = record { entry = λ i. refl; horizon = λ p. refl; register-0 = refl; register-1 = refl; register-2 = refl; register-4 = refl }
+  start-written t = record { entry = λ i. refl; horizon = λ p. refl; register_0 = refl; register_1 = refl; register_2 = refl; register_4 = refl }
 
   pub settings-written : (t : ℕ) (ks : List Call) → AsWritten c (reverse ks) (after_all (whole_step c) (start t) ks)
   settings-written t ks = calls-kept ks (start-written t)

@@ -86,8 +86,8 @@ module _ (r : Router) (b p : ℕ) where
   unfolding grant granted
   grant-on-time i x l e h =
       let (j, y, q, n, k) = wins i x l e in
-      let on-time = fails (is_early x) (λ k. let m = true→T (is_early x) k in omega (arith, orders)) in
-      let (z, d) = not-before r.clock i x j y false (is_early y) on-time refl n k in
+      let on_time = fails (is_early x) (λ k. let m = true→T (is_early x) k in omega (arith, orders)) in
+      let (z, d) = not-before r.clock i x j y false (is_early y) on_time refl n k in
       (j, y, rw (q, z), d)
 
   -- Best-effort has the port only where it waits.

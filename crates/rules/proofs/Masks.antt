@@ -61,5 +61,5 @@ unfolding all count counted has
 some-ports = refl
 
 -- From the computed test.
-pub some-port : (m : ℕ) → 0 < m → m ≤ 31 → (p : ℕ) × (p < 5) × (has m p ≡ true)
-some-port m h l = count-some (has m) 5 (ltb-true 0 (count 5 (has m)) (subst (λ (t : Bool). (t || ltb 0 (count 5 (has m))) ≡ true) (ne_eqb m 0 (λ e. omega arith)) (all-at (λ m. eqb m 0 || ltb 0 (count 5 (has m))) 32 m some-ports (omega arith))))
+pub some_port : (m : ℕ) → 0 < m → m ≤ 31 → (p : ℕ) × (p < 5) × (has m p ≡ true)
+some_port m h l = count-some (has m) 5 (ltb-true 0 (count 5 (has m)) (subst (λ (t : Bool). (t || ltb 0 (count 5 (has m))) ≡ true) (ne_eqb m 0 (λ e. omega arith)) (all-at (λ m. eqb m 0 || ltb 0 (count 5 (has m))) 32 m some-ports (omega arith))))

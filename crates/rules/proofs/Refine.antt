@@ -88,11 +88,11 @@ module _ (B : Board) (L : Laws B) where
             let eo : o ≡ y.time -ℤ w.clock = ap₂ (offset (bits c)) H.time (S.reads clock refl (omega arith)) ∙ window-offset c w.clock y F' in
             let soon = F.window.soon in
             let ports : leb (get s (Mask, i)) 31 ≡ true = le-leb (get s (Mask, i)) 31 (omega (arith, H.left, F.left)) in
-            let in-range : ltb d (half c) ≡ true = lt-ltb d (half c) (omega (arith, ed, F'.small)) in
+            let in_range : ltb d (half c) ≡ true = lt-ltb d (half c) (omega (arith, ed, F'.small)) in
             let not_late : le_z (neg_ℤ (pos d)) o ≡ true = rw (ed, eo) (T→true (le_z (neg_ℤ (pos F'.delay)) (y.time -ℤ w.clock)) (window-from c w.clock y F')) in
-            let not-far : le_z o (pos (half c - 2)) ≡ true = rw eo (T→true (le_z (y.time -ℤ w.clock) (pos (half c - 2))) (omega (arith, orders))) in
+            let not_far : le_z o (pos (half c - 2)) ≡ true = rw eo (T→true (le_z (y.time -ℤ w.clock) (pos (half c - 2))) (omega (arith, orders))) in
             let header = eq-eqb (stamp c (packet r.memory i)) (get s (Deadline, i)) (ap (stamp c) H.bytes ∙ stamp-bytes c y L.some_bytes ∙ sym H.deadline) in
-            or_right (eqb (get s (Mask, i)) 0) _ (and_both _ _ (and_both _ _ (and_both _ _ (and_both _ _ ports in-range) not_late) not-far) header)
+            or_right (eqb (get s (Mask, i)) 0) _ (and_both _ _ (and_both _ _ (and_both _ _ (and_both _ _ ports in_range) not_late) not_far) header)
 
     -- Settings and stack read as the router's, which are in range, and which have each empty place once.
     pub rel-sound : sound B r ≡ true
@@ -101,12 +101,12 @@ module _ (B : Board) (L : Laws B) where
         let room = rel-room B L R G.kept in
         let connections = all_true (connection_sound B s) 256 (λ i l. and_both _ _ (lt-ltb (get s (Delay, i)) (half c) (omega (arith, S.reads (Delay, i) refl l, (G.settings.entry i l).delay))) (le-leb (get s (Routes, i)) 31 (omega (arith, S.reads (Routes, i) refl l, (G.settings.entry i l).mask)))) in
         let horizons = all_true (horizon_sound B s) 5 (λ p l. lt-ltb (get s (Horizon, p)) (half c) (omega (arith, S.reads (Horizon, p) refl l, G.settings.horizon p l))) in
-        let register-1 = lt-ltb (get s (Latch, 1)) (half c) (omega (arith, S.reads (Latch, 1) refl (omega arith), G.settings.latch.delay)) in
-        let register-2 = le-leb (get s (Latch, 2)) 31 (omega (arith, S.reads (Latch, 2) refl (omega arith), G.settings.latch.mask)) in
-        let register-4 = le-leb (get s (Latch, 3)) 31 (omega (arith, S.reads (Latch, 3) refl (omega arith), G.settings.ports)) in
+        let register_1 = lt-ltb (get s (Latch, 1)) (half c) (omega (arith, S.reads (Latch, 1) refl (omega arith), G.settings.latch.delay)) in
+        let register_2 = le-leb (get s (Latch, 2)) 31 (omega (arith, S.reads (Latch, 2) refl (omega arith), G.settings.latch.mask)) in
+        let register_4 = le-leb (get s (Latch, 3)) 31 (omega (arith, S.reads (Latch, 3) refl (omega arith), G.settings.ports)) in
         let once = ap distinct R.stack ∙ G.kept.once in
         let idle = all_true (listed B s) 256 (λ i l. eq-beq _ _ (ap (elem i) R.stack ∙ G.kept.idle i l ∙ sym (mask-held r i (w.place i) (R.place i l) (G.busy i l)))) in
-        and_both _ _ (and_both _ _ connections (and_both _ _ horizons (and_both _ _ register-1 (and_both _ _ register-2 register-4))))
+        and_both _ _ (and_both _ _ connections (and_both _ _ horizons (and_both _ _ register_1 (and_both _ _ register_2 register_4))))
         (and_both _ _ (and_both _ _ (le-leb (get s free) 256 room) (and_both _ _ once idle)) (all_true (slot_sound B r) 256 slot-sound))
 
     -- Question 1 is passed.

@@ -59,11 +59,11 @@ module _ (B : Board) (L : Laws B) where
   -- ---- step 4
 
   -- It clears the mask of each slot that is due, one slot after the other.
-  pub withdrawn-reads : (s : List ℕ) → length s ≡ state_length → (n : ℕ) → n ≤ 256 → Reads B L none_out (withdrawn B n s) (marked B L Mask (is_due_now B s) 0 (get s) n)
+  pub withdrawn_reads : (s : List ℕ) → length s ≡ state_length → (n : ℕ) → n ≤ 256 → Reads B L none_out (withdrawn B n s) (marked B L Mask (is_due_now B s) 0 (get s) n)
   unfolding withdrawn
-  withdrawn-reads s z zero l = marked-none B L Mask (is_due_now B s) 0 (get s) (reads_self B L s z)
-  withdrawn-reads s z (suc n) l =
-      let M = withdrawn-reads s z n (omega arith) in
+  withdrawn_reads s z zero l = marked-none B L Mask (is_due_now B s) 0 (get s) (reads_self B L s z)
+  withdrawn_reads s z (suc n) l =
+      let M = withdrawn_reads s z n (omega arith) in
       rw (M.reads (Deadline, n) refl (omega arith), M.reads clock refl (omega arith)) (marked_next B L Mask (is_due_now B s) 0 (get s) n M (omega arith))
 
   -- ---- a slot goes back on the stack
@@ -114,7 +114,7 @@ module _ (B : Board) (L : Laws B) where
     s₃ = withdrawn B 256 s
 
     M : Reads B L none_out s₃ (marked B L Mask (is_due_now B s) 0 (get s) 256)
-    M = withdrawn-reads s R.settings.sized 256 (omega arith)
+    M = withdrawn_reads s R.settings.sized 256 (omega arith)
 
     -- A slot that is due has no port left, any other keeps its ports.
     mask-remains : (i : ℕ) → i < 256 → get s₃ (Mask, i) ≡ remains t (w.place i)

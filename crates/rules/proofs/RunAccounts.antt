@@ -342,9 +342,9 @@ module _ (c : ℕ) where
         to_serve-known M.tick Known (now-accepted d m) a
 
     -- What is left is x itself, and x fits the clock.
-    pub in-time : (x : Packet) (j : ℕ) → Accepted h x j → (p : ℕ) → 0 < left_on p x w.place → w.clock ≤ℤ x.deadline
+    pub in_time : (x : Packet) (j : ℕ) → Accepted h x j → (p : ℕ) → 0 < left_on p x w.place → w.clock ≤ℤ x.deadline
     unfolding left_on
-    in-time x j a p n =
+    in_time x j a p n =
         let (i, l, e) = count-some (λ i. is_left x (to_serve (w.place i) p)) 256 n in
         let (y, ey, s) = left-x x (to_serve (w.place i) p) e in
         let (k, ev, ex, t) = to_serve-held (w.place i) p y ey in
@@ -356,7 +356,7 @@ module _ (c : ℕ) where
     genuine d m p hp x =
         let t = (moment c R m).tick in
         record {
-          on-time = λ i e. let (l, v, b) = rests t p (on_time (i, x)) e in to_serve-accepted d m p (omega arith) i p x l v;
+          on_time = λ i e. let (l, v, b) = rests t p (on_time (i, x)) e in to_serve-accepted d m p (omega arith) i p x l v;
           early = λ i e. let (l, v, b, n) = rests t p (early (i, x)) e in to_serve-accepted d m p (omega arith) i p x l v;
           withdrawn = λ k. let (i, l, v, b) = withdrawn-at t p x k in (i, to_serve-accepted d m 5 (omega arith) i p x l v);
         }
@@ -366,7 +366,7 @@ module _ (c : ℕ) where
     unfolding is_sent
     permitted x j a p hp d m = record {
       sent = λ s. go (d.report.grant p) refl s;
-      on-time = λ i y e s. record { le = subst (λ (y : Packet). T (le_z y.time d.met.clock)) (is_x y i s ((genuine d m p hp y).on-time i e)) (rests t p (on_time (i, y)) e).2 };
+      on_time = λ i y e s. record { le = subst (λ (y : Packet). T (le_z y.time d.met.clock)) (is_x y i s ((genuine d m p hp y).on_time i e)) (rests t p (on_time (i, y)) e).2 };
       early = λ i y e s. record { lt = subst (λ (y : Packet). T (lt_z d.met.clock y.time)) (is_x y i s ((genuine d m p hp y).early i e)) (rests t p (early (i, y)) e).2 };
       withdrawn = λ n.
           let (y, k, s) = times-some x (d.report.withdrawn p) n in
@@ -383,5 +383,5 @@ module _ (c : ℕ) where
         go : (g : Grant (ℕ × Packet)) → d.report.grant p ≡ g → is_sent x g ≡ true → Sent d p x
         go nobody e s = absurd (true≢false (sym s))
         go best_effort e s = absurd (true≢false (sym s))
-        go (on_time (i, y)) e s = subst (Sent d p) (is_x y i s ((genuine d m p hp y).on-time i e)) (sent-on-time t p hp i y e)
+        go (on_time (i, y)) e s = subst (Sent d p) (is_x y i s ((genuine d m p hp y).on_time i e)) (sent-on-time t p hp i y e)
         go (early (i, y)) e s = subst (Sent d p) (is_x y i s ((genuine d m p hp y).early i e)) (sent-early t p hp i y e)

@@ -18,7 +18,7 @@ use Rattle.rules.specs.Whole.{Packet, Router, to_serve, meets}
 use Rattle.rules.proofs.Booleans.{true→T}
 use Rattle.rules.proofs.IndexLaws.{count_none, count-some, count_same, count-pos, counted-true, counted-false}
 use Rattle.rules.proofs.Integers.{orders, suc-nat, not-le}
-use Rattle.rules.proofs.Masks.{some-port}
+use Rattle.rules.proofs.Masks.{some_port}
 use Rattle.rules.proofs.ByteLaws.{top_first-at}
 use Rattle.rules.proofs.StateLaws.{length-top_first}
 use Rattle.rules.proofs.Grants.{grant-on-time, grant-best-effort, grant-waits, grant-early}
@@ -26,7 +26,7 @@ use Rattle.rules.proofs.Good.{after, chosen}
 use Rattle.rules.proofs.Accounting.{taken, for-port, arrivals-left, served-left}
 use Rattle.rules.proofs.Runs.{next, next-good, Ticking, Run, rest, quiet, ticks, run-ticks, split, moment, over}
 use Rattle.rules.proofs.RunTold.{packet-taken, told, gave-back, run-free}
-use Rattle.rules.proofs.RunAccounts.{same_self, left-x, router-at, arrival-reported, grant-reported, window-at, run-good, accepted_on, accepted-append, conserve, once, unique, held-accepted, to_serve-accepted, left-nothing, in-time, genuine, permitted}
+use Rattle.rules.proofs.RunAccounts.{same_self, left-x, router-at, arrival-reported, grant-reported, window-at, run-good, accepted_on, accepted-append, conserve, once, unique, held-accepted, to_serve-accepted, left-nothing, in_time, genuine, permitted}
 
 module _ (c : ℕ) where
   -- ---- a run with one more tick
@@ -47,7 +47,7 @@ module _ (c : ℕ) where
     kept-stored : Stored h w.place
     kept-stored = record {
       accepted = held-accepted c R empty;
-      some-port = λ i l x e. some-port x.left ((run-good c R).busy i l x e) ((run-good c R).window i l x e).left;
+      some_port = λ i l x e. some_port x.left ((run-good c R).busy i l x e) ((run-good c R).window i l x e).left;
     }
 
     -- ---- what waits for a port when a tick serves it
@@ -97,7 +97,7 @@ module _ (c : ℕ) where
       waits-at x j W =
           let b = balance x j W.accepted in
           let u = W.unsent in
-          let w' = not-withdrawn x j W.accepted W.in-time in
+          let w' = not-withdrawn x j W.accepted W.in_time in
           let k : counted (has x.mask p) ≡ 1 = ap counted W.port ∙ counted-true in
           let (i, l, e) = count-some (λ i. is_left x (to_serve (here.place i) p)) 256 (omega arith) in
           let (y, ey, s) = left-x x (to_serve (here.place i) p) e in
@@ -112,7 +112,7 @@ module _ (c : ℕ) where
           let b = balance x i a in
           let k = count-pos (λ i. is_left x (to_serve (here.place i) p)) 256 i l (ap (is_left x) e ∙ same_self x) in
           let (port, unsent) = once-left (has x.mask p) refl b k in
-          record { accepted = a; port = port; unsent = unsent; in-time = record { le = (window-at c t p p (omega arith) i x l e).1 } }
+          record { accepted = a; port = port; unsent = unsent; in_time = record { le = (window-at c t p p (omega arith) i x l e).1 } }
         where
           once-left : (v : Bool) → has x.mask p ≡ v → sent_on p x before + withdrawn_on p x before + left_on p x here.place ≡ counted v → 0 < left_on p x here.place → (has x.mask p ≡ true) × (sent_on p x before ≡ 0)
           once-left true q b k = let z = counted-true in (q, omega arith)
@@ -123,8 +123,8 @@ module _ (c : ℕ) where
       none-ready N i x l e = (N x i (at-waits i x l e)).lt
 
       -- What waits is at a place, and the grant is the least there.
-      on-time : (x : Packet) (i : ℕ) → Unserved c before d p x i → x.time ≤ℤ d.met.clock → (j : ℕ) × (y : Packet) × (d.report.grant p ≡ on_time (j, y)) × NoLater (y.deadline, y.time, j) (x.deadline, x.time, i)
-      on-time x i W ready =
+      sends-ready : (x : Packet) (i : ℕ) → Unserved c before d p x i → x.time ≤ℤ d.met.clock → (j : ℕ) × (y : Packet) × (d.report.grant p ≡ on_time (j, y)) × NoLater (y.deadline, y.time, j) (x.deadline, x.time, i)
+      sends-ready x i W ready =
           let (l, e) = waits-at x i W in
           let (j, y, g, le) = grant-on-time here d.call.best_effort p i x l e ready.le in
           (j, y, grant-reported c t p ∙ g, le)
@@ -135,9 +135,9 @@ module _ (c : ℕ) where
       -- Best-effort is granted only where nothing is on time: else the grant would be on time.
       prompt : Prompt c before d p
       prompt = record {
-        on-time = on-time;
-        best-effort = λ e. (grant-best-effort here d.call.best_effort p (sym (grant-reported c t p) ∙ e), λ x i W. record { lt = later x i W e (le_z x.time d.met.clock) refl });
-        best-effort-if = λ b N. grant-reported c t p ∙ grant-waits here d.call.best_effort p (none-ready N) b;
+        on_time = sends-ready;
+        when_best_effort = λ e. (grant-best-effort here d.call.best_effort p (sym (grant-reported c t p) ∙ e), λ x i W. record { lt = later x i W e (le_z x.time d.met.clock) refl });
+        best_effort_if = λ b N. grant-reported c t p ∙ grant-waits here d.call.best_effort p (none-ready N) b;
         early = λ b N x i W near.
             let (l, e) = waits-at x i W in
             let (j, y, g, le) = grant-early here d.call.best_effort p (none-ready N) b i x l e (subst (λ (n : ℕ). T (le_z (x.time -ℤ d.met.clock) (pos n))) (sym (t.settings.horizon p)) near.le) in
@@ -145,7 +145,7 @@ module _ (c : ℕ) where
       }
         where
           later : (x : Packet) (i : ℕ) → Unserved c before d p x i → d.report.grant p ≡ best_effort → (v : Bool) → le_z x.time d.met.clock ≡ v → T (lt_z d.met.clock x.time)
-          later x i W e true q = let (j, y, g, le) = on-time x i W (record { le = true→T (le_z x.time d.met.clock) q }) in clash e g
+          later x i W e true q = let (j, y, g, le) = sends-ready x i W (record { le = true→T (le_z x.time d.met.clock) q }) in clash e g
           later x i W e false q = not-le x.time d.met.clock q
 
     -- All of it, from a router whose places are free, the lowest first.
@@ -156,7 +156,7 @@ module _ (c : ℕ) where
           account = λ x i a p hp. record {
             once = let v = conserve c p hp x R in let o = once c (for-port p) x i R a in let z = left-nothing c R empty p x in omega arith;
             permitted = λ d m. permitted c R empty x i a p hp d m;
-            in-time = in-time c R empty x i a p;
+            in_time = in_time c R empty x i a p;
           };
           unique = unique c R;
           genuine = genuine c R empty;
@@ -167,6 +167,6 @@ module _ (c : ℕ) where
           clock = run-ticks c R;
           stored = kept-stored;
           kept = (run-good c R).kept;
-          first-free = (ap length f ∙ length-top_first (λ i. 255 - i) 256, λ i l. ap (λ (l : List ℕ). get_or l i 0) f ∙ top_first-at (λ i. 255 - i) 256 i l ∙ omega arith);
+          first_free = (ap length f ∙ length-top_first (λ i. 255 - i) 256, λ i l. ap (λ (l : List ℕ). get_or l i 0) f ∙ top_first-at (λ i. 255 - i) 256 i l ∙ omega arith);
           given_back = λ before later d e. let (t, S, U) = split c R before later d e in subst (GivenBack d) (sym (run-free c U)) (gave-back c t);
         }

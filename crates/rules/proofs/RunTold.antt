@@ -106,8 +106,8 @@ module _ (c : ℕ) where
       record {
         arrival = b ∙ answers-due t p l;
         nobody = λ k. (a ∙ ap grant_code k, zeros-at d.outgoing p (t.sends p l ∙ ap (grant_bytes c) k));
-        on-time = λ i x k. let (h, v, g) = rests c t p (on_time (i, x)) k in (a ∙ ap grant_code k, packet-at c d.outgoing p x hc lc (size-at c t p p (omega arith) i x h v) (t.sends p l ∙ ap (grant_bytes c) k));
-        best-effort = λ k. (a ∙ ap grant_code k, zeros-at d.outgoing p (t.sends p l ∙ ap (grant_bytes c) k));
+        on_time = λ i x k. let (h, v, g) = rests c t p (on_time (i, x)) k in (a ∙ ap grant_code k, packet-at c d.outgoing p x hc lc (size-at c t p p (omega arith) i x h v) (t.sends p l ∙ ap (grant_bytes c) k));
+        when_best_effort = λ k. (a ∙ ap grant_code k, zeros-at d.outgoing p (t.sends p l ∙ ap (grant_bytes c) k));
         early = λ i x k. let (h, v, g, n) = rests c t p (early (i, x)) k in (a ∙ ap grant_code k, packet-at c d.outgoing p x hc lc (size-at c t p p (omega arith) i x h v) (t.sends p l ∙ ap (grant_bytes c) k));
         withdrawn = (e, f);
       }

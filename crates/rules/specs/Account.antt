@@ -80,7 +80,7 @@ module _ (c : ℕ) where
   -- What the tick d may do with the accepted packet x on port p: send it once it has arrived and in its window, or withdraw it once it has arrived, in its deadline tick.
   pub record Permitted (d : NotedTick) (p : ℕ) (x : Packet) : Type 0 where
     pub sent : is_sent x (d.report.grant p) ≡ true → (x.arrived ≤ℤ d.met.clock) × ((x.time -ℤ pos (last_horizon c p d.past)) ≤ℤ d.met.clock) × (d.met.clock ≤ℤ x.deadline)
-    pub on-time : (i : ℕ) (y : Packet) → d.report.grant p ≡ on_time (i, y) → same_packet x y ≡ true → x.time ≤ℤ d.met.clock
+    pub on_time : (i : ℕ) (y : Packet) → d.report.grant p ≡ on_time (i, y) → same_packet x y ≡ true → x.time ≤ℤ d.met.clock
     pub early : (i : ℕ) (y : Packet) → d.report.grant p ≡ early (i, y) → same_packet x y ≡ true → d.met.clock <ℤ x.time
     pub withdrawn : 0 < times x (d.report.withdrawn p) → (x.arrived ≤ℤ d.met.clock) × (d.met.clock ≡ x.deadline)
 
@@ -88,13 +88,13 @@ module _ (c : ℕ) where
   pub record Account (h : List NotedTick) (w : Router) (x : Packet) (p : ℕ) : Type 0 where
     pub once : sent_on p x h + withdrawn_on p x h + left_on p x w.place ≡ counted (has x.mask p)
     pub permitted : (d : NotedTick) → Memᴰ d h → Permitted d p x
-    pub in-time : 0 < left_on p x w.place → w.clock ≤ℤ x.deadline
+    pub in_time : 0 < left_on p x w.place → w.clock ≤ℤ x.deadline
 
   -- ---- ports
 
   -- What tick d sends or withdraws on port p was accepted, and is sent from its place.
   pub record Genuine (h : List NotedTick) (d : NotedTick) (p : ℕ) (x : Packet) : Type 0 where
-    pub on-time : (i : ℕ) → d.report.grant p ≡ on_time (i, x) → Accepted h x i
+    pub on_time : (i : ℕ) → d.report.grant p ≡ on_time (i, x) → Accepted h x i
     pub early : (i : ℕ) → d.report.grant p ≡ early (i, x) → Accepted h x i
     pub withdrawn : Memᴰ x (d.report.withdrawn p) → (i : ℕ) × Accepted h x i
 
@@ -103,7 +103,7 @@ module _ (c : ℕ) where
     pub accepted : Accepted (before ++ (d ∷ [])) x i
     pub port : has x.mask p ≡ true
     pub unsent : sent_on p x before ≡ 0
-    pub in-time : d.met.clock ≤ℤ x.deadline
+    pub in_time : d.met.clock ≤ℤ x.deadline
 
   -- No packet that waits there is on time.
   abbrev pub NoneOnTime : List NotedTick → NotedTick → ℕ → Type 0
@@ -112,9 +112,9 @@ module _ (c : ℕ) where
   -- A waiting packet whose time has come makes the port send on time, and none of a later deadline, or of the same and a later time, or of both the same and a higher place; best-effort has the port
   -- exactly where it waits and nothing is on time; else a packet within the horizon makes it send early, and none of a later time, or of the same and a later deadline, or of both the same and a higher place.
   pub record Prompt (before : List NotedTick) (d : NotedTick) (p : ℕ) : Type 0 where
-    pub on-time : (x : Packet) (i : ℕ) → Unserved before d p x i → x.time ≤ℤ d.met.clock → (j : ℕ) × (y : Packet) × (d.report.grant p ≡ on_time (j, y)) × NoLater (y.deadline, y.time, j) (x.deadline, x.time, i)
-    pub best-effort : d.report.grant p ≡ best_effort → (has d.call.best_effort p ≡ true) × NoneOnTime before d p
-    pub best-effort-if : has d.call.best_effort p ≡ true → NoneOnTime before d p → d.report.grant p ≡ best_effort
+    pub on_time : (x : Packet) (i : ℕ) → Unserved before d p x i → x.time ≤ℤ d.met.clock → (j : ℕ) × (y : Packet) × (d.report.grant p ≡ on_time (j, y)) × NoLater (y.deadline, y.time, j) (x.deadline, x.time, i)
+    pub when_best_effort : d.report.grant p ≡ best_effort → (has d.call.best_effort p ≡ true) × NoneOnTime before d p
+    pub best_effort_if : has d.call.best_effort p ≡ true → NoneOnTime before d p → d.report.grant p ≡ best_effort
     pub early : has d.call.best_effort p ≡ false → NoneOnTime before d p → (x : Packet) (i : ℕ) → Unserved before d p x i → (x.time -ℤ d.met.clock) ≤ℤ pos (last_horizon c p d.past)
         → (j : ℕ) × (y : Packet) × (d.report.grant p ≡ early (j, y)) × NoLater (y.time, y.deadline, j) (x.time, x.deadline, i)
 
@@ -150,8 +150,8 @@ module _ (c : ℕ) where
   pub record Told (d : NotedTick) (p : ℕ) : Type 0 where
     pub arrival : byte d.answers (5 + p) ≡ answer_due d p
     pub nobody : d.report.grant p ≡ nobody → (byte d.answers p ≡ 0) × ZerosAt d.outgoing p
-    pub on-time : (i : ℕ) (x : Packet) → d.report.grant p ≡ on_time (i, x) → (byte d.answers p ≡ 1) × PacketAt c d.outgoing p x
-    pub best-effort : d.report.grant p ≡ best_effort → (byte d.answers p ≡ 2) × ZerosAt d.outgoing p
+    pub on_time : (i : ℕ) (x : Packet) → d.report.grant p ≡ on_time (i, x) → (byte d.answers p ≡ 1) × PacketAt c d.outgoing p x
+    pub when_best_effort : d.report.grant p ≡ best_effort → (byte d.answers p ≡ 2) × ZerosAt d.outgoing p
     pub early : (i : ℕ) (x : Packet) → d.report.grant p ≡ early (i, x) → (byte d.answers p ≡ 3) × PacketAt c d.outgoing p x
     pub withdrawn : let n = length (d.report.withdrawn p) in (byte d.answers (10 + 2 * p) ≡ n / 256) × (byte d.answers (11 + 2 * p) ≡ n % 256)
 
@@ -167,7 +167,7 @@ pub record Kept (place : ℕ → Option Held) (free : List ℕ) : Type 0 where
 -- A packet still stored was accepted, is in the place that it took, and has a port left.
 pub record Stored (h : List NotedTick) (place : ℕ → Option Held) : Type 0 where
   pub accepted : (i : ℕ) → i < 256 → (x : Held) → place i ≡ some x → Accepted h x.packet i
-  pub some-port : (i : ℕ) → i < 256 → (x : Held) → place i ≡ some x → (p : ℕ) × (p < 5) × (has x.left p ≡ true)
+  pub some_port : (i : ℕ) → i < 256 → (x : Held) → place i ≡ some x → (p : ℕ) × (p < 5) × (has x.left p ≡ true)
 
 -- Each is above all that follow it.
 unfoldable pub Falling : List ℕ → Type 0
@@ -197,5 +197,5 @@ pub record Accounts (c : ℕ) (T : ℤ) (h : List NotedTick) (w : Router) : Type
   pub clock : w.clock ≡ T +ℤ pos (length h)
   pub stored : Stored h w.place
   pub kept : Kept w.place w.free
-  pub first-free : (length (free_before h w) ≡ 256) × ((i : ℕ) → i < 256 → get_or (free_before h w) i 0 ≡ i)
+  pub first_free : (length (free_before h w) ≡ 256) × ((i : ℕ) → i < 256 → get_or (free_before h w) i 0 ≡ i)
   pub given_back : (before later : List NotedTick) (d : NotedTick) → h ≡ before ++ (d ∷ later) → GivenBack d (free_before later w)

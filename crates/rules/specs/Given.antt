@@ -62,10 +62,10 @@ module _ (c : ℕ) where
   pub record AsWritten (past : List Call) (w : Router) : Type 0 where
     pub entry : (i : ℕ) → w.entry i ≡ last_entry i past
     pub horizon : (p : ℕ) → w.horizon p ≡ last_horizon p past
-    pub register-0 : w.latch 0 ≡ last_written 0 past
-    pub register-1 : w.latch 1 ≡ last_written 1 past
-    pub register-2 : w.latch 2 ≡ last_written 2 past
-    pub register-4 : w.latch 3 ≡ last_written 4 past
+    pub register_0 : w.latch 0 ≡ last_written 0 past
+    pub register_1 : w.latch 1 ≡ last_written 1 past
+    pub register_2 : w.latch 2 ≡ last_written 2 past
+    pub register_4 : w.latch 3 ≡ last_written 4 past
 
   -- ---- the accepted ticks
 

@@ -44,9 +44,9 @@ module _ (style : Style) where
       rw (input, sum, after-joined p.tape p.number a next (records_in a) whole (records_in next), print-append, append-nil o.text, append_assoc)
       (ap (λ (t : Paged). record { page = t.page; text = o.text ++ t.text }) (looped-joined (record { place = o.place; held = drop n block }) rs last))
 
-pub reads-print-the-tape : ReadsPrintTheTape
+pub reads_print_the_tape : ReadsPrintTheTape
 unfolding ReadsPrintTheTape turn with_end to_take events_of
-reads-print-the-tape style reads last =
+reads_print_the_tape style reads last =
     let o = looped style unread reads in
     rw (take-length (o.left.held ++ last), ← append_assoc)
     (ap (λ (t : Paged). t.text ++ print_end style t.page) (looped-joined style unread reads last) ∙ all-printed style (flatten reads ++ last))
@@ -63,9 +63,9 @@ looped-counts style b (r ∷ rs) =
     let n = to_take false (length block) in
     omega (arith, looped-counts style (turn style false b r).left rs, length-take-le n block (omega arith), length-drop n block, length-append b.held r, length-append r (flatten rs))
 
-pub no-byte-lost : NoByteLost
+pub no_byte_lost : NoByteLost
 unfolding NoByteLost turn turned with_end
-no-byte-lost style ended turns bytes block b r k =
+no_byte_lost style ended turns bytes block b r k =
     let o = (looped style unread r.reads).left in
     rw (← r.joined)
     (λ e. omega (arith, e, ap (λ (q : Between). q.place.number) r.left, looped-counts style unread r.reads, length-append o.held r.last, length-append (flatten r.reads) r.last, r.all))

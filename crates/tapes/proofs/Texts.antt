@@ -12,7 +12,7 @@ use Rattle.pages.specs.declared.Paged as Code
 use Rattle.pages.specs.Printing.{unbegun, Paged, in_order}
 use Rattle.pages.specs.Claims.{PagesAsTicksCome}
 use Rattle.pages.specs.Values.{PutPaged}
-use Rattle.pages.proofs.AsTicksCome.{pages-as-ticks-come}
+use Rattle.pages.proofs.AsTicksCome.{pages_as_ticks_come}
 use Rattle.tapes.specs.declared.printing.Style.{Style}
 use Rattle.tapes.specs.declared.printing.Style.TheVariants.{Lines, Pages}
 use Rattle.tapes.specs.Printed.{lines_of, printed, print_event, print_events, print_end}
@@ -64,4 +64,4 @@ all_lines p (e ∷ es) = rw (all_lines p es)
 pub all-printed : (style : Style) (input : List ℕ) → (let o = print_events style (unbegun 1) (events_of input) in o.text ++ print_end style o.page ≡ printed style input)
 unfolding print_event print_end printed PagesAsTicksCome
 all-printed Lines input = rw (all_lines (unbegun 1) (events_of input)) (append-nil (lines_of (events_of input)))
-all-printed Pages input = pages-as-ticks-come (events_of input)
+all-printed Pages input = pages_as_ticks_come (events_of input)

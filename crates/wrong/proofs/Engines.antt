@@ -53,10 +53,10 @@ module _ (from : Bench → Bench) (choose : Bench → ℕ → ℕ → Grant ℕ)
   by-the-area K = subst ByTheArea works K
 
 -- Ours is the one built of our parts.
-own-parts : (b : Bench) (k : Call) → engine_by kept by_queues kept b k ≡ bench_step board8 b k
+own_parts : (b : Bench) (k : Call) → engine_by kept by_queues kept b k ≡ bench_step board8 b k
 unfolding engine_by work_by bench_step E.tick E.ticked E.arrived_bench E.ticked_by
-own-parts b (control register v) = refl
-own-parts b (tick k out ans) = refl
+own_parts b (control register v) = refl
+own_parts b (tick k out ans) = refl
 
 -- What it does.
 abbrev ours : Outcome Bench
@@ -69,27 +69,27 @@ two-sizes = refl
 
 ours-by-the-area : ByTheArea ours
 unfolding computing
-ours-by-the-area = record { number = refl; outgoing = refl; answers = refl; slots = refl; on-time = ap (take 4) two-sizes; early = ap (λ (q : List ℕ). take 4 (drop 774 q)) two-sizes }
+ours-by-the-area = record { number = refl; outgoing = refl; answers = refl; slots = refl; on_time = ap (take 4) two-sizes; early = ap (λ (q : List ℕ). take 4 (drop 774 q)) two-sizes }
 
 keeps : KeepsQueues (bench_step board8)
 unfolding KeepsQueues
-keeps = subst ByTheArea (sym (works kept by_queues kept) ∙ own-parts reordered plain_tick) ours-by-the-area
+keeps = subst ByTheArea (sym (works kept by_queues kept) ∙ own_parts reordered plain_tick) ours-by-the-area
 
 -- ---- the wrong ones
 
 -- Port 0 sends the packet of identifier 40, which the comparator puts first, and not 42.
-refills-first : KeepsQueues W.refills_first → ⊥
+refills_first : KeepsQueues W.refills_first → ⊥
 unfolding computing
-refills-first K = let e : ◌≡◌ {A = ℕ} 40 42 = ap (λ (l : List ℕ). byte l 0) (by-the-area anew by_queues kept K).outgoing in omega arith
+refills_first K = let e : ◌≡◌ {A = ℕ} 40 42 = ap (λ (l : List ℕ). byte l 0) (by-the-area anew by_queues kept K).outgoing in omega arith
 
-asks-comparator : KeepsQueues W.asks_comparator → ⊥
+asks_comparator : KeepsQueues W.asks_comparator → ⊥
 unfolding computing
-asks-comparator K = let e : ◌≡◌ {A = ℕ} 40 42 = ap (λ (l : List ℕ). byte l 0) (by-the-area kept _ kept K).outgoing in omega arith
+asks_comparator K = let e : ◌≡◌ {A = ℕ} 40 42 = ap (λ (l : List ℕ). byte l 0) (by-the-area kept _ kept K).outgoing in omega arith
 
 -- The last of the two that are left is slot 1, and not slot 0.
-refills-last : KeepsQueues W.refills_last → ⊥
+refills_last : KeepsQueues W.refills_last → ⊥
 unfolding computing
-refills-last K = let e : ◌≡◌ {A = ℕ} 1 0 = ap (λ (l : List ℕ). byte l 2) (by-the-area kept by_queues anew K).on-time in omega arith
+refills_last K = let e : ◌≡◌ {A = ℕ} 1 0 = ap (λ (l : List ℕ). byte l 2) (by-the-area kept by_queues anew K).on_time in omega arith
 
 pub engines-shut-out : EnginesShutOut
-engines-shut-out = record { own-parts = own-parts; keeps = keeps; refills-first = refills-first; refills-last = refills-last; asks-comparator = asks-comparator }
+engines-shut-out = record { own_parts = own_parts; keeps = keeps; refills_first = refills_first; refills_last = refills_last; asks_comparator = asks_comparator }

@@ -29,8 +29,8 @@ module _ (B : Board) (r : Store) (W P : Type 0) (f : Bool) (lengths : (f ≡ tru
           N.sound (lengths.0 p) s ∙ sym (K.sound (lengths.0 p) s)
 
 -- The laws hold of ours.
-pub numbers-fixed : NumbersFixed
-numbers-fixed = record {
+pub numbers_fixed : NumbersFixed
+numbers_fixed = record {
   control = λ r q v n N. one_number board8 r _ _ (full board8 r) (full-iff board8 r) 15 _ (fails-so (slots-iff board8 r)) n _ N (entries.control r q v).0;
   tick = λ r k out ans n N. one_number board8 r _ _ (full board8 r && areas_full k.arrivals out ans) (areas-iff board8 r k.arrivals out ans) 15 _ (fails-so (slots-iff board8 r)) n _ N (entries.tick r k out ans).0;
   service = λ r n N. let i = lowest_bad board8 r in one_number board8 r _ _ (full board8 r) (full-iff board8 r) (15 + 256 * i) 0 (lowest-bad board8 r) n _ (N i) (entries.service r i);

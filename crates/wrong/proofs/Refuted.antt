@@ -58,60 +58,60 @@ absent-accepted e = let z : ◌≡◌ {A = ℕ} 0 1 = cc in omega arith
 -- ---- the routers
 
 -- Port by port, both do the same.
-pub own-parts : OwnParts
+pub own_parts : OwnParts
 unfolding OwnParts running whole_step accept ticked arrived served
-own-parts r (control register v) = refl
-own-parts r (tick k out ans) = refl
+own_parts r (control register v) = refl
+own_parts r (tick k out ans) = refl
 
 -- Both replies are those of our router that never turns over.
-pub replies-as-ours : RepliesAsOurs
+pub replies_as_ours : RepliesAsOurs
 unfolding RepliesAsOurs Holds bits
-replies-as-ours O H r s m t l ks P =
+replies_as_ours O H r s m t l ks P =
     let whole : (O : OverBytes) → Holds board8 O (D.our_whole board8) → AfterCalls board8 O (D.our_whole board8) (O.first r t) t ks = λ O H. subst (AfterCalls board8 O (D.our_whole board8) (O.first r t) t) (take-length ks) (H r s m t l ks P (length ks) (le_refl (length ks))) in
     (whole O H).agree ∙ sym (whole (D.our_bytes board8) demand3.holds).agree
 
 -- 1 is due, and no packet is accepted.
-pub refuses-all : (q : ℕ) → Refuted (W.refuses_all q)
+pub refuses_all : (q : ℕ) → Refuted (W.refuses_all q)
 unfolding running W.refusing L.on_time
-refuses-all q O H = refused-accepted (((after O (W.refuses_all q) H 0 (omega arith) L.on_time refl).accounts.taken _ (Memᴰ.head refl) 0 (omega arith)).due refl).1
+refuses_all q O H = refused-accepted (((after O (W.refuses_all q) H 0 (omega arith) L.on_time refl).accounts.taken _ (Memᴰ.head refl) 0 (omega arith)).due refl).1
 
-pub moves-the-clock : Refuted W.moves_the_clock
+pub moves_the_clock : Refuted W.moves_the_clock
 unfolding running L.on_time
-moves-the-clock O H = absent-accepted (((after O W.moves_the_clock H 0 (omega arith) L.on_time refl).accounts.taken _ (Memᴰ.head refl) 0 (omega arith)).due refl).1
+moves_the_clock O H = absent-accepted (((after O W.moves_the_clock H 0 (omega arith) L.on_time refl).accounts.taken _ (Memᴰ.head refl) 0 (omega arith)).due refl).1
 
 -- Entry 0 was committed with the mask 1, and has 0.
-pub ignores-writes : Refuted W.ignores_writes
+pub ignores_writes : Refuted W.ignores_writes
 unfolding running L.on_time
-ignores-writes O H = let e = ap (λ (x : Entry). x.mask) ((after O W.ignores_writes H 0 (omega arith) L.on_time refl).settings.entry 0) in omega arith
+ignores_writes O H = let e = ap (λ (x : Entry). x.mask) ((after O W.ignores_writes H 0 (omega arith) L.on_time refl).settings.entry 0) in omega arith
 
 -- The tick is to be accepted, and gets 3.
-pub refuses-ticks : Refuted W.refuses_ticks
+pub refuses_ticks : Refuted W.refuses_ticks
 unfolding running W.refusing_ticks L.on_time
-refuses-ticks O H = let e : ◌≡◌ {A = ℕ} 3 0 = cons-first (cons-rest (cons-rest (cons-rest (cons-rest (after O W.refuses_ticks H 0 (omega arith) L.on_time refl).numbers)))) in omega arith
+refuses_ticks O H = let e : ◌≡◌ {A = ℕ} 3 0 = cons-first (cons-rest (cons-rest (cons-rest (cons-rest (after O W.refuses_ticks H 0 (omega arith) L.on_time refl).numbers)))) in omega arith
 
 -- The accepted packet has identifier 0, and its entry 9.
-pub keeps-identifier : Refuted W.keeps_identifier
+pub keeps_identifier : Refuted W.keeps_identifier
 unfolding running W.kept L.on_time
-keeps-identifier O H = let e = (((after O W.keeps_identifier H 0 (omega arith) L.on_time refl).accounts.taken _ (Memᴰ.head refl) 0 (omega arith)).only _ refl).1.identifier in omega arith
+keeps_identifier O H = let e = (((after O W.keeps_identifier H 0 (omega arith) L.on_time refl).accounts.taken _ (Memᴰ.head refl) 0 (omega arith)).only _ refl).1.identifier in omega arith
 
 -- A packet is accepted where 7 is due.
-pub reads-minus-128-early : Refuted W.reads_minus128_early
+pub reads_minus_128_early : Refuted W.reads_minus128_early
 unfolding running L.half_a_turn_back
-reads-minus-128-early O H = let e = (((after O W.reads_minus128_early H 200 (omega arith) L.half_a_turn_back refl).accounts.taken _ (Memᴰ.head refl) 0 (omega arith)).only _ refl).0 in omega arith
+reads_minus_128_early O H = let e = (((after O W.reads_minus128_early H 200 (omega arith) L.half_a_turn_back refl).accounts.taken _ (Memᴰ.head refl) 0 (omega arith)).only _ refl).0 in omega arith
 
 -- Port 0 sends on time, and its byte is 3.
-pub exchanges-codes : Refuted W.exchanges_codes
+pub exchanges_codes : Refuted W.exchanges_codes
 unfolding running W.exchanged L.on_time
-exchanges-codes O H =
+exchanges_codes O H =
     let A = after O W.exchanges_codes H 0 (omega arith) L.on_time refl in
-    let a = ((A.accounts.told _ (Memᴰ.head refl) 0 (omega arith)).on-time _ _ refl).0 in
+    let a = ((A.accounts.told _ (Memᴰ.head refl) 0 (omega arith)).on_time _ _ refl).0 in
     let e : ◌≡◌ {A = ℕ} _ 3 = ap (λ (r : Reply). byte r.answers 0) (cons-first (cons-rest (cons-rest (cons-rest (cons-rest A.agree))))) in
     omega arith
 
 -- Port 1 is idle, and its first byte is 9.
-pub sends-nines : Refuted W.sends_nines
+pub sends_nines : Refuted W.sends_nines
 unfolding running W.nines L.on_time
-sends-nines O H =
+sends_nines O H =
     let A = after O W.sends_nines H 0 (omega arith) L.on_time refl in
     let a = ((A.accounts.told _ (Memᴰ.head refl) 1 (omega arith)).nobody refl).1 0 (omega arith) in
     let e : ◌≡◌ {A = ℕ} _ 9 = ap (λ (r : Reply). byte r.outgoing 20) (cons-first (cons-rest (cons-rest (cons-rest (cons-rest A.agree))))) in
@@ -122,29 +122,29 @@ pub pretends : Refuted W.pretends
 unfolding running W.pretended L.ahead
 pretends O H =
     let A = after O W.pretends H 0 (omega arith) L.ahead refl in
-    let a = ((A.accounts.told _ (Memᴰ.tail (Memᴰ.head refl)) 0 (omega arith)).on-time _ _ refl).1.identifier in
+    let a = ((A.accounts.told _ (Memᴰ.tail (Memᴰ.head refl)) 0 (omega arith)).on_time _ _ refl).1.identifier in
     let e : ◌≡◌ {A = ℕ} _ 0 = ap (λ (r : Reply). byte r.outgoing 0) (cons-first (cons-rest (cons-rest (cons-rest (cons-rest (cons-rest A.agree)))))) in
     omega arith
 
 -- The packet is withdrawn at the clock 0, and its deadline is 11.
-pub withdraws-all : Refuted W.withdraws_all
+pub withdraws_all : Refuted W.withdraws_all
 unfolding running W.all_left L.ahead
-withdraws-all O H =
+withdraws_all O H =
     let A = (after O W.withdraws_all H 0 (omega arith) L.ahead refl).accounts in
     let e : pos 0 ≡ pos 11 = (((A.account _ 0 (_, 0, Memᴰ.head refl, omega arith, refl, refl) 0 (omega arith)).permitted _ (Memᴰ.head refl)).withdrawn (omega arith)).1 in
     let z : ◌≡◌ {A = ℕ} 0 11 = cc in
     omega arith
 
 -- The packet is sent on time at the clock 250, and its time is 260.
-pub compares-plainly : Refuted W.compares_plainly
+pub compares_plainly : Refuted W.compares_plainly
 unfolding running W.granted_by L.across_the_turn
-compares-plainly O H =
-    ((((after O W.compares_plainly H 250 (omega arith) L.across_the_turn refl).accounts.account _ 0 (_, 0, Memᴰ.head refl, omega arith, refl, refl) 0 (omega arith)).permitted _ (Memᴰ.head refl)).on-time 0 _ refl refl).le
+compares_plainly O H =
+    ((((after O W.compares_plainly H 250 (omega arith) L.across_the_turn refl).accounts.account _ 0 (_, 0, Memᴰ.head refl, omega arith, refl, refl) 0 (omega arith)).permitted _ (Memᴰ.head refl)).on_time 0 _ refl refl).le
 
 -- On port 1 of its mask the packet is not sent, not withdrawn and not left.
-pub frees-after-first : Refuted W.frees_after_first
+pub frees_after_first : Refuted W.frees_after_first
 unfolding running W.freed W.none_left L.multicast
-frees-after-first O H =
+frees_after_first O H =
     let e : ◌≡◌ {A = ℕ} 0 1 = ((after O W.frees_after_first H 0 (omega arith) L.multicast refl).accounts.account _ 0 (_, 0, Memᴰ.head refl, omega arith, refl, refl) 1 (omega arith)).once in
     omega arith
 
@@ -164,24 +164,24 @@ pub idles : Refuted W.idles
 unfolding running L.on_time
 idles O H =
     let P = (after O W.idles H 0 (omega arith) L.on_time refl).accounts.prompt [] [] _ refl 0 (omega arith) in
-    nobody-sends (P.on-time _ 0 (record { accepted = (_, 0, Memᴰ.head refl, omega arith, refl, refl); port = refl; unsent = refl; in-time = record { le = tt } }) (record { le = tt })).2
+    nobody-sends (P.on_time _ 0 (record { accepted = (_, 0, Memᴰ.head refl, omega arith, refl, refl); port = refl; unsent = refl; in_time = record { le = tt } }) (record { le = tt })).2
 
 -- Best-effort waits and nothing is on time, since whatever arrived has the time 1; and the port sends early.
-pub passes-best-effort : Refuted W.passes_best_effort
+pub passes_best_effort : Refuted W.passes_best_effort
 unfolding running W.granted_by L.beside_best_effort
-passes-best-effort O H =
+passes_best_effort O H =
     let A = (after O W.passes_best_effort H 0 (omega arith) L.beside_best_effort refl).accounts in
-    early-waits ((A.prompt [] [] _ refl 0 (omega arith)).best-effort-if refl (λ x i W.
+    early-waits ((A.prompt [] [] _ refl 0 (omega arith)).best_effort_if refl (λ x i W.
     let (d, p, m, l, e, z) = W.accepted in
     let t : x.time ≡ pos 1 = ((A.taken d m p l).only x e).1.time ∙ ap (λ (d : NotedTick). d.call.times p) (Memᴰ.eq_of_singleton m) in
     record { lt = subst (λ (u : ℤ). T (lt_z (pos 0) u)) (sym t) tt }))
 
 -- The packet of connection 0 waits in place 0 with the deadline 11, and that of deadline 41 is sent.
-pub takes-table-delay : Refuted W.takes_table_delay
+pub takes_table_delay : Refuted W.takes_table_delay
 unfolding running L.delay_changed
-takes-table-delay O H =
+takes_table_delay O H =
     let P = (after O W.takes_table_delay H 0 (omega arith) L.delay_changed refl).accounts.prompt (_ ∷ []) [] _ refl 0 (omega arith) in
-    let (j, y, g, n) = P.on-time _ 0 (record { accepted = (_, 0, Memᴰ.head refl, omega arith, refl, refl); port = refl; unsent = refl; in-time = record { le = tt } }) (record { le = tt }) in
+    let (j, y, g, n) = P.on_time _ 0 (record { accepted = (_, 0, Memᴰ.head refl, omega arith, refl, refl); port = refl; unsent = refl; in_time = record { le = tt } }) (record { le = tt }) in
     later (subst (λ (w : ℕ × Packet). NoLater (w.1.deadline, w.1.time, w.0) (pos 11, pos 1, 0)) (sent_is g) n)
   where
     later : NoLater (pos 41, pos 1, 1) (pos 11, pos 1, 0) → ⊥
@@ -189,11 +189,11 @@ takes-table-delay O H =
     later (inr (e, l)) = let z : ◌≡◌ {A = ℕ} 41 11 = cc in omega arith
 
 -- Of two alike, place 1 is sent while place 0 waits.
-pub sends-higher-place : Refuted W.sends_higher_place
+pub sends_higher_place : Refuted W.sends_higher_place
 unfolding running L.alike
-sends-higher-place O H =
+sends_higher_place O H =
     let P = (after O W.sends_higher_place H 0 (omega arith) L.alike refl).accounts.prompt [] [] _ refl 0 (omega arith) in
-    let (j, y, g, n) = P.on-time _ 0 (record { accepted = (_, 0, Memᴰ.head refl, omega arith, refl, refl); port = refl; unsent = refl; in-time = record { le = tt } }) (record { le = tt }) in
+    let (j, y, g, n) = P.on_time _ 0 (record { accepted = (_, 0, Memᴰ.head refl, omega arith, refl, refl); port = refl; unsent = refl; in_time = record { le = tt } }) (record { le = tt }) in
     higher (subst (λ (w : ℕ × Packet). NoLater (w.1.deadline, w.1.time, w.0) (pos 0, pos 0, 0)) (sent_is g) n)
   where
     higher : NoLater (pos 0, pos 0, 1) (pos 0, pos 0, 0) → ⊥
@@ -202,11 +202,11 @@ sends-higher-place O H =
     higher (inr (e, inr (f, l))) = omega arith
 
 -- The packet of connection 1 waits with the time 5, and that of time 10 is sent.
-pub ties-by-place : Refuted W.ties_by_place
+pub ties_by_place : Refuted W.ties_by_place
 unfolding running W.one_key L.waited
-ties-by-place O H =
+ties_by_place O H =
     let P = (after O W.ties_by_place H 10 (omega arith) L.waited refl).accounts.prompt [] [] _ refl 0 (omega arith) in
-    let (j, y, g, n) = P.on-time _ _ (record { accepted = (_, 1, Memᴰ.head refl, omega arith, refl, refl); port = refl; unsent = refl; in-time = record { le = tt } }) (record { le = tt }) in
+    let (j, y, g, n) = P.on_time _ _ (record { accepted = (_, 1, Memᴰ.head refl, omega arith, refl, refl); port = refl; unsent = refl; in_time = record { le = tt } }) (record { le = tt }) in
     later (sent_is g) refl refl n
   where
     earlier : {a b : ℤ} {i j : ℕ} → a ≡ pos 20 → b ≡ pos 10 → NoLater (a, b, j) (pos 20, pos 5, i) → ⊥
@@ -218,9 +218,9 @@ ties-by-place O H =
     later e d t n = earlier (ap (λ (w : ℕ × Packet). w.1.deadline) e ∙ d) (ap (λ (w : ℕ × Packet). w.1.time) e ∙ t) n
 
 -- One packet was accepted, and the place that it was sent from stands second in the free list, behind 1.
-pub gives-back-under : Refuted W.gives_back_under
+pub gives_back_under : Refuted W.gives_back_under
 unfolding running W.emptied_under W.under L.on_time
-gives-back-under O H =
+gives_back_under O H =
     let A = after O W.gives_back_under H 0 (omega arith) L.on_time refl in
     let B = A.accounts.given_back [] [] _ refl in
     let taken : ◌≡◌ {A = ℕ} _ 1 = ap (λ (r : Reply). count 5 (λ q. eqb (byte r.answers (5 + q)) 1)) (cons-first (cons-rest (cons-rest (cons-rest (cons-rest A.agree))))) in
@@ -235,22 +235,22 @@ gives-back-under O H =
 
 pub shut_out : ShutOut
 shut_out = record {
-  refuses-all = refuses-all;
+  refuses_all = refuses_all;
   idles = idles;
-  moves-the-clock = moves-the-clock;
+  moves_the_clock = moves_the_clock;
   pretends = pretends;
-  withdraws-all = withdraws-all;
-  compares-plainly = compares-plainly;
-  passes-best-effort = passes-best-effort;
-  frees-after-first = frees-after-first;
-  takes-table-delay = takes-table-delay;
-  reads-minus-128-early = reads-minus-128-early;
-  ignores-writes = ignores-writes;
-  keeps-identifier = keeps-identifier;
-  refuses-ticks = refuses-ticks;
-  exchanges-codes = exchanges-codes;
-  sends-nines = sends-nines;
-  gives-back-under = gives-back-under;
-  ties-by-place = ties-by-place;
-  sends-higher-place = sends-higher-place;
+  withdraws_all = withdraws_all;
+  compares_plainly = compares_plainly;
+  passes_best_effort = passes_best_effort;
+  frees_after_first = frees_after_first;
+  takes_table_delay = takes_table_delay;
+  reads_minus_128_early = reads_minus_128_early;
+  ignores_writes = ignores_writes;
+  keeps_identifier = keeps_identifier;
+  refuses_ticks = refuses_ticks;
+  exchanges_codes = exchanges_codes;
+  sends_nines = sends_nines;
+  gives_back_under = gives_back_under;
+  ties_by_place = ties_by_place;
+  sends_higher_place = sends_higher_place;
 }

@@ -53,9 +53,9 @@ asks_comparator = engine_by kept (λ b waiting p. grant board8 b.store.state wai
 
 pub record EnginesShutOut : Type 0 where
   -- Built of our own parts an engine is ours, and ours keeps its queues.
-  pub own-parts : (b : Bench) (k : Call) → engine_by kept by_queues kept b k ≡ bench_step board8 b k
+  pub own_parts : (b : Bench) (k : Call) → engine_by kept by_queues kept b k ≡ bench_step board8 b k
   pub keeps : KeepsQueues (bench_step board8)
   -- These don't.
-  pub refills-first : KeepsQueues refills_first → ⊥
-  pub refills-last : KeepsQueues refills_last → ⊥
-  pub asks-comparator : KeepsQueues asks_comparator → ⊥
+  pub refills_first : KeepsQueues refills_first → ⊥
+  pub refills_last : KeepsQueues refills_last → ⊥
+  pub asks_comparator : KeepsQueues asks_comparator → ⊥

@@ -32,30 +32,30 @@ Refuted N = (O : OverBytes) → Holds board8 O N → ⊥
 
 pub record ShutOut : Type 0 where
   -- "one refusing every packet", "one answering 8 while n is above 0", and one that answers 1 and stores nothing.
-  pub refuses-all : (q : ℕ) → Refuted (refuses_all q)
+  pub refuses_all : (q : ℕ) → Refuted (refuses_all q)
   -- "one always idle, and one moving only the clock"
   pub idles : Refuted idles
-  pub moves-the-clock : Refuted moves_the_clock
+  pub moves_the_clock : Refuted moves_the_clock
   -- "one storing and pretending to send in later ticks"
   pub pretends : Refuted pretends
   -- "one inventing withdrawals"
-  pub withdraws-all : Refuted withdraws_all
+  pub withdraws_all : Refuted withdraws_all
   -- "Comparing time > t as plain bytes"
-  pub compares-plainly : Refuted compares_plainly
+  pub compares_plainly : Refuted compares_plainly
   -- "Letting early packets pass waiting best-effort."
-  pub passes-best-effort : Refuted passes_best_effort
+  pub passes_best_effort : Refuted passes_best_effort
   -- "Freeing a multicast slot after its first port."
-  pub frees-after-first : Refuted frees_after_first
+  pub frees_after_first : Refuted frees_after_first
   -- "Taking d from the table at sending time."
-  pub takes-table-delay : Refuted takes_table_delay
+  pub takes_table_delay : Refuted takes_table_delay
   -- "Treating offset −128 as early."
-  pub reads-minus-128-early : Refuted reads_minus128_early
+  pub reads_minus_128_early : Refuted reads_minus128_early
   -- Others that agree with a router over bytes of the same fault.
-  pub ignores-writes : Refuted ignores_writes
-  pub keeps-identifier : Refuted keeps_identifier
-  pub refuses-ticks : Refuted refuses_ticks
-  pub exchanges-codes : Refuted exchanges_codes
-  pub sends-nines : Refuted sends_nines
-  pub gives-back-under : Refuted gives_back_under
-  pub ties-by-place : Refuted ties_by_place
-  pub sends-higher-place : Refuted sends_higher_place
+  pub ignores_writes : Refuted ignores_writes
+  pub keeps_identifier : Refuted keeps_identifier
+  pub refuses_ticks : Refuted refuses_ticks
+  pub exchanges_codes : Refuted exchanges_codes
+  pub sends_nines : Refuted sends_nines
+  pub gives_back_under : Refuted gives_back_under
+  pub ties_by_place : Refuted ties_by_place
+  pub sends_higher_place : Refuted sends_higher_place
