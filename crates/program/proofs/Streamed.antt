@@ -1,5 +1,5 @@
 -- What went in and out over the turns made so far, where the reader and the writer say which bytes they have: each turn goes on where the last one stopped, so at the input's end the texts are what is printed of the whole tape.
-use Rattle.std.proofs.Common.{ℕ, ◌≡◌, Bool, List, [], ◌∷◌, ◌++◌, None, Some, IfSome, refl, sym, ap, ◌∙◌, subst, append-nil, append_assoc, true, false}
+use Rattle.std.proofs.Common.{ℕ, ◌≡◌, Bool, List, [], ◌∷◌, ◌++◌, None, Some, IfSome, sym, ap, ◌∙◌, subst, append-nil, append_assoc, true, false}
 use mathlib.Core.List.{flatten}
 use Rattle.std.specs.declared.option.Option.{Option}
 use Rattle.std.specs.Io.KnownBytes.{Consumes, Appends, IsAtEnd}

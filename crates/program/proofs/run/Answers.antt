@@ -1,6 +1,6 @@
 -- `run` meets its contract: before the first turn nothing has come in, and a turn more is a read more in what is reached.
 use borrow.Author.Tests.{ltb-true}
-use Rattle.std.proofs.Common.{ℕ, ◌+◌, ◌*◌, ◌≤◌, ◌<◌, ◌≡◌, true, false, true≢false, List, ◌++◌, length, take, drop, refl, sym, ap, ◌∙◌, arith}
+use Rattle.std.proofs.Common.{ℕ, ◌+◌, ◌*◌, ◌≤◌, ◌<◌, ◌≡◌, true, false, true≢false, List, ◌++◌, length, take, drop, sym, ap, ◌∙◌, arith}
 use Rattle.std.proofs.lemmas.List.{length-take, length-drop}
 use Rattle.rules.proofs.Booleans.{and_left, and_right, not-false}
 use Rattle.records.specs.Records.{record_length}

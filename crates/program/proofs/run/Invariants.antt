@@ -1,6 +1,6 @@
 -- `run`: what is left between turns is what the turns made so far leave, over as many reads and as many bytes as were counted; where there is more to do, none of these was at the input's end. What the reader gave and the writer got are these reads and their texts.
 -- The measure is what is left of the bound on reads.
-use Rattle.std.proofs.Common.{◌+◌, ◌*◌, ◌-◌, ◌≤◌, ◌<◌, ◌≡◌, true, take}
+use Rattle.std.proofs.Common.{◌*◌, ◌-◌, ◌≤◌, ◌<◌, ◌≡◌, true, take}
 use Rattle.records.specs.Records.{record_length}
 use Rattle.pages.specs.Values.{Unfilled}
 use Rattle.tapes.specs.Blocks.{Reached}
