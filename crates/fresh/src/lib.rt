@@ -1,7 +1,7 @@
 // A fresh router, made in the lent state and memory.
 #![tactic(auto)]
 
-ghost use Rattle.std.specs.Prelude.{◌≡◌, length};
+ghost use Rattle.std.specs.Prelude.{◌≡◌, length, replicate};
 ghost use Rattle.rules.specs.Areas.{number_reply, Outcome, Store};
 ghost use Rattle.rules.specs.Board.{board8};
 ghost use Rattle.rules.specs.Questions.{make_fresh};
@@ -11,13 +11,14 @@ ghost use Rattle.fresh.specs.Slots.{emptied};
 
 use layout::{ClockReading, Field, Refusal, Router, Slot, SlotAddress};
 
-// Copies a fresh router's slot to the place of each, from its time on.
-fn put_slots(state: &mut [u8], slot: Slot)
-    requires { (length state.old ≡ board8.state_length) × (slot ≡ empty) }
+// Copies the slots of a fresh router, each to its place from its time on.
+fn put_slots(state: &mut [u8], slots: [Slot; Router::SLOTS])
+    requires { (length state.old ≡ board8.state_length) × (slots ≡ replicate 256 empty) }
     ensures { state.new ≡ emptied 256 state.old }
 {
     let mut i = 0;
     while i < Router::SLOTS {
+        let slot = slots[i];
         let bytes = slot.0;
         let at = layout::place(Field::Time(SlotAddress(i as u8)));
         layout::copy_in(&bytes, state, at);
@@ -41,7 +42,7 @@ pub fn make_fresh(state: &mut [u8], memory: &mut [u8], clock: u8) -> u8
     let bytes = router.bytes;
     let slots = router.slots;
     layout::copy_in(&bytes, state, 0);
-    put_slots(state, slots[0]);
+    put_slots(state, slots);
     layout::clear(memory);
     Refusal::Accepted.number()
 }

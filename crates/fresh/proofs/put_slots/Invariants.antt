@@ -1,4 +1,4 @@
--- `fresh::put_slots` meets its contract. The loop's invariant: the slots below `i` are copied, and each is empty. The measure is
+-- `fresh::put_slots` meets its contract. The loop's invariant: the slots below `i` are copied, and each is empty, being one of a repeat. The measure is
 -- what is left of 256. Assumes nothing.
 use Prim.Native.Nat.{◌≤◌, ◌-◌}
 use mathlib.Core.Path.{◌≡◌}
