@@ -336,7 +336,7 @@ static const struct {
     void (*call)(void);
     size_t most; /* bytes of stack, on every board */
 } entry_stack[] = {
-    {"router_fresh", fresh_entry, 2048},
+    {"router_fresh", fresh_entry, 5120},
     {"router_control", control_entry, 640},
     {"router_tick", tick_entry, 1024},
     {"router_display", display_entry, 64},
