@@ -14,7 +14,7 @@ ghost use Rattle.arrive.specs.Numbers.{number};
 use layout::{ClockReading, ConnectionId, Field, Router, SlotAddress};
 
 // What an arrival meets: no packet, a slot, or the refusal of question 6, 7 or 8.
-#[derive(Drop)]
+#[derive(Clone, Copy)]
 pub enum Arrival {
     Absent,
     Stored,

@@ -42,7 +42,7 @@ pub fn in_time(time: ClockReading, t: ClockReading, d: u8) -> bool
 //     key         |1| time - t      |0| deadline - t    |1| time - t   |0| deadline - t
 //
 // In a case across, the clock turns from 255 to 0 between the time and t.
-#[derive(Drop)]
+#[derive(Clone, Copy)]
 pub enum Case {
     Behind,
     BehindAcross,
@@ -106,7 +106,7 @@ pub fn on_time(time: ClockReading, t: ClockReading) -> bool
 }
 
 // A key of an eligible packet: the variant is the figure's second bit, the first number the figure's. A packet that is ineligible on a port, its mask without the port, has none there. The second decides among equal ones: on time the offset, from half a turn behind t on, early deadline - t.
-#[derive(Drop)]
+#[derive(Clone, Copy)]
 pub enum Key {
     OnTime(u8, u8),
     Early(u8, u8),

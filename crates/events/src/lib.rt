@@ -12,21 +12,21 @@ ghost use Rattle.events.specs.Values.{tape_of, event_of, taken_of};
 use layout::{Field, Router};
 
 // The ports with an arrival for the coming tick, and the number of the record that brought each.
-#[derive(Drop)]
+#[derive(Clone, Copy)]
 pub struct Pending {
     pub mask: u8,
     pub records: [u64; Router::PORTS],
 }
 
 // What a record comes to; an accepted tick has the clock before it.
-#[derive(Drop)]
+#[derive(Clone, Copy)]
 pub enum Event {
     Nothing,
     Refused(u8),
     Ticked(u8),
 }
 
-#[derive(Drop)]
+#[derive(Clone, Copy)]
 pub struct Taken {
     pub pending: Pending,
     pub event: Event,

@@ -24,7 +24,7 @@ pub struct ClockReading(pub u8);
 pub struct Slot(pub [u8; 3]);
 
 // A router before it is copied to the lent area: the bytes of its state, and its slots.
-#[derive(Drop)]
+#[derive(Clone, Copy)]
 pub struct Router {
     pub bytes: [u8; Router::STATE],
     pub slots: [Slot; Router::SLOTS],
@@ -119,7 +119,7 @@ impl Refusal {
 }
 
 // The fields of one byte.
-#[derive(Drop)]
+#[derive(Clone, Copy)]
 pub enum Field {
     Clock,
     Horizon(u8),
@@ -205,7 +205,7 @@ pub fn get(state: &[u8], f: Field) -> u8
 }
 
 // A slot's logical arrival time and its deadline.
-#[derive(Drop)]
+#[derive(Clone, Copy)]
 pub struct SlotTimes {
     pub time: ClockReading,
     pub deadline: ClockReading,

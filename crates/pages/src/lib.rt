@@ -24,7 +24,7 @@ pub struct Page {
 }
 
 // The page at hand after some text, and the place after that.
-#[derive(Drop)]
+#[derive(Clone, Copy)]
 pub struct Paged {
     pub page: Page,
     pub at: usize,

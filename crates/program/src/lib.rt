@@ -185,7 +185,7 @@ fn put_end(lines: &mut [u8], at: usize, style: Style, page: Page, ended: bool) -
 }
 
 // After a block's records: the place, the text's length, and whether it was written.
-#[derive(Drop)]
+#[derive(Clone, Copy)]
 struct Printed {
     place: Place,
     length: usize,
@@ -225,7 +225,7 @@ fn print_block<I, O: Write, E: Write>(
 }
 
 // After a turn: what came in, what was printed, and whether there is more to do.
-#[derive(Drop)]
+#[derive(Clone, Copy)]
 struct TurnEnd {
     input: Input,
     printed: Printed,
@@ -308,7 +308,7 @@ fn unread(place: Place) -> TurnEnd
 }
 
 // How the last turn ended, how many reads there were, one in each turn, and how many bytes they brought.
-#[derive(Drop)]
+#[derive(Clone, Copy)]
 struct Ran {
     end: TurnEnd,
     reads: u64,

@@ -26,7 +26,7 @@ pub fn record_end(input: &[u8], start: usize) -> usize
 }
 
 // What the questions of a record answer.
-#[derive(Drop)]
+#[derive(Clone, Copy)]
 pub enum Answer {
     Accepted,
     Short,

@@ -68,7 +68,7 @@ pub fn router_display(outgoing: &[u8], port: u8) -> usize
     display::start(outgoing, port)
 }
 
-// The version of this archive.
+// The version of the archive.
 pub fn router_version() -> u32
     ensures { result ≡ version }
 {

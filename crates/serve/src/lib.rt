@@ -16,7 +16,7 @@ use choose::Grant;
 use layout::{ClockReading, Field, Router};
 
 // What a tick answers of steps 2 to 4, port by port: who had it, and how many packets were withdrawn.
-#[derive(Drop)]
+#[derive(Clone, Copy)]
 pub struct Served {
     pub codes: [u8; Router::PORTS],
     pub counts: [u16; Router::PORTS],

@@ -100,7 +100,7 @@ pub fn router_queues_tick(
     n
 }
 
-// The version of this archive.
+// The version of the archive.
 pub fn service_version() -> u32
     ensures { result ≡ version }
 {

@@ -33,7 +33,7 @@ pub fn place(port: u8, early: bool) -> usize
 }
 
 // The first of a queue.
-#[derive(Drop)]
+#[derive(Clone, Copy)]
 pub enum First {
     At(SlotAddress),
     Nothing,

@@ -72,7 +72,7 @@ ReadsPrintTheTape = (style : Style) (reads : List (List ℕ)) (last : List ℕ) 
     o.text ++ (turn style true o.left last).text ≡ printed style (flatten reads ++ last)
 
 -- What a loop has come to that made so many turns, whose reads brought so many bytes in all: its last block, and what is left after it, are those of the definition over such reads, whether the input ended with the last or not.
--- By their number this excludes bytes held that get lost or are taken twice (`NoByteLost`). Which bytes a read brought no contract says, so that bytes held which are exchanged for as many others between two turns don't show here: that a turn's block begins with the bytes handed to it, and that it hands on the bytes left of it, is said by program's `turn`.
+-- By their number this excludes bytes held that get lost or are taken twice (`NoByteLost`). Bytes held which are exchanged for as many others between two turns don't show here: that a turn's block begins with the bytes handed to it, and that it hands on the bytes left of it, is said by program's `turn`; and by its `run` what is written of all bytes, where the reader says which they are.
 pub record Reached (style : Style) (ended : Bool) (turns bytes : ℕ) (block : List ℕ) (b : Between) : Type 0 where
   pub reads : List (List ℕ)
   pub last : List ℕ

@@ -17,7 +17,7 @@ use layout::Router;
 use pages::{Page, Paged};
 
 // The arrivals that wait after a record, the page at hand, and the place after its text.
-#[derive(Drop)]
+#[derive(Clone, Copy)]
 pub struct Stepped {
     pub pending: Pending,
     pub paged: Paged,
@@ -65,7 +65,7 @@ pub fn step(
 }
 
 // Between blocks: the arrivals that wait, how many records were read, and the page at hand.
-#[derive(Drop)]
+#[derive(Clone, Copy)]
 pub struct Place {
     pub pending: Pending,
     pub number: u64,
@@ -87,7 +87,7 @@ pub fn begin(state: &mut [u8], memory: &mut [u8], arrivals: &mut [u8]) -> Place
 }
 
 // The place after a block, and how many characters went out with it.
-#[derive(Drop)]
+#[derive(Clone, Copy)]
 pub struct Turned {
     pub place: Place,
     pub length: usize,
