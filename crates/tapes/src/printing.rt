@@ -17,6 +17,9 @@ pub enum Style {
     Pages,
 }
 
+// The least number of a refusal that an arrival meets in a tick.
+const REFUSED: u8 = 6;
+
 // The line of a port's arrival, if a tick's answers refuse it.
 fn put_refused_arrival(
     lines: &mut [u8],
@@ -30,7 +33,7 @@ fn put_refused_arrival(
     ensures upper_bound { result ≤ at + 26 }
 {
     let met = layout::byte(answers, Router::PORTS + port);
-    if met < 6 {
+    if met < REFUSED {
         return at;
     }
     text::put_refused(lines, at, records[port], met)

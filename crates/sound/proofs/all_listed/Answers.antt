@@ -11,4 +11,4 @@ unfolding all
 loop-i-init c = (search rules, refl)
 
 pub loop-i-preserved : goal.loop-i-preserved
-loop-i-preserved c = (search rules, all-next _ c.loop-i.i _ _ c.loop-i.invariant.1 (rw (c.requires.1 c.loop-i.i (search rules), c.read-empty.ensures)))
+loop-i-preserved c = (search rules, all-next _ c.loop-i.i _ _ c.loop-i.invariant.1 (let e = c.requires.1 c.loop-i.i (search rules) in cc))
