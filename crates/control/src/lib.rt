@@ -8,7 +8,7 @@ ghost use Rattle.rules.specs.Questions.{commit_entry, commit_horizon, written};
 ghost use Rattle.control.specs.Latches.{latch_of, latch_with};
 ghost use Rattle.control.specs.Registers.{register_number, Names};
 
-use layout::{ConnectionId, Field, Refusal, Router};
+use layout::{ConnectionId, Field, Port, Refusal, Router};
 
 // The control registers, 0 to 5 in this order. `Connection` and `Horizon` are commits; the others are stored.
 #[derive(Clone, Copy, Debug, PartialEq, Eq)]
@@ -134,17 +134,15 @@ fn commit_entry(state: &mut [u8], connection: ConnectionId)
     layout::put(state, Field::Routes(connection), latch.routes);
 }
 
-const PORTS: u8 = Router::PORTS as u8;
-
 // Register 5: a horizon for each port in the latch's mask.
 #[tactic(auto, unfolding(rules::specs::Questions::commit_horizon))]
 fn commit_horizon(state: &mut [u8], horizon: u8)
     ensures { state.new ≡ commit_horizon board8 5 (board8.get state.old (LatchField, 3)) horizon state.old }
 {
     let mask = Latch::read(state).horizons;
-    for port in 0..PORTS {
-        if layout::has_port(mask, port) {
-            layout::put(state, Field::Horizon(port), horizon);
+    for index in 0..Port::COUNT {
+        if layout::has_port(mask, Port { index }) {
+            layout::put(state, Field::Horizon(index), horizon);
         }
     }
 }
