@@ -1,6 +1,6 @@
 pub mod Room
 pub mod Answers
-pub mod FirstFailure
+pub mod Ranges
 pub mod StackMarks
 pub mod SlotTests
 pub mod Packets

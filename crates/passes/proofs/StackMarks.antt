@@ -1,7 +1,7 @@
 -- A pass over the idle-address stack that marks the slots it meets, for any board: an entry is new just if its slot isn't marked. Assumes nothing.
-use Prim.Native.Nat.{ℕ, suc, ◌+◌, ◌<◌, ◌≤◌}
+use Prim.Native.Nat.{ℕ, zero, suc, ◌+◌, ◌<◌, ◌≤◌}
 use mathlib.Core.Path.{◌≡◌, refl, sym, ap, ◌∙◌}
-use mathlib.Core.Bool.{Bool, true, false, not, ◌&&◌, ◌||◌}
+use mathlib.Core.Bool.{Bool, true, false, not, ◌&&◌, ◌||◌, and-false}
 use mathlib.Core.List.{List}
 use native.Mathlib.Decide.{ℕ_discrete, dec_lt}
 use native.Mathlib.Numerals.{add-one}
@@ -9,7 +9,7 @@ use native.Mathlib.Omega.{arith}
 use lib.ListN.{get_or, set, replicate, length-set, length-replicate, get_or-replicate}
 use lib.Seq.{get_or-set_same, get_or-set_other}
 use lib.Dec.{leb, eqb}
-use borrow.Author.Tests.{eq-eqb, ne_eqb}
+use borrow.Author.Tests.{eq-eqb, ne_eqb, le-leb}
 use Rattle.rules.specs.Order.{all, top_first}
 use Rattle.rules.specs.Areas.{elem, distinct}
 use Rattle.rules.specs.Board.{Board, Idle, free}
@@ -23,49 +23,60 @@ module _ (B : Board) (s : List ℕ) where
   open B use {get}
 
   -- No entry is passed at first, and nothing is marked.
-  pub marked-none : (seen : List Bool) → seen ≡ replicate 256 false → Marked B s 0 seen true
+  pub marked-none : Marked B s 0 (replicate 256 false)
   unfolding top_first elem distinct
-  marked-none seen e = rw e (record {
+  marked-none = record {
     sized = length-replicate 256 false;
     marks = λ a h. get_or-replicate 256 a false false h;
     slots = λ j h. absurd (omega arith);
     different = refl;
-  })
+  }
 
-  -- One entry more, a: its slot is marked, and the entries stay different if it had no mark.
-  module _ (i a : ℕ) (e : a ≡ get s (Idle, i)) (h : a < 256) (seen : List Bool) (d : Bool) (M : Marked B s i seen d) where
-    marks-next : (b : ℕ) → b < 256 → get_or (set seen a true) b false ≡ elem b (entries B s (suc i))
-    unfolding top_first elem
-    marks-next b l = go (ℕ_discrete b a)
-      where
-        go : Dec (b ≡ a) → get_or (set seen a true) b false ≡ (eqb b (get s (Idle, i)) || elem b (entries B s i))
-        go (yes q) = rw (eq-eqb b (get s (Idle, i)) (q ∙ e), ← q) (get_or-set_same seen b true false (rw M.sized l))
-        go (no q) = rw (ne_eqb b (get s (Idle, i)) (λ z. q (z ∙ sym e))) (get_or-set_other seen a b true false q ∙ M.marks b l)
+  -- The next entry, a.
+  module _ (i a : ℕ) (e : a ≡ get s (Idle, i)) (h : a < 256) (seen : List Bool) (M : Marked B s i seen) where
+    -- Without a mark it differs from those before it, and its slot is marked.
+    module _ (new : get_or seen a false ≡ false) where
+      marks-next : (b : ℕ) → b < 256 → get_or (set seen a true) b false ≡ elem b (entries B s (suc i))
+      unfolding top_first elem
+      marks-next b l = go (ℕ_discrete b a)
+        where
+          go : Dec (b ≡ a) → get_or (set seen a true) b false ≡ (eqb b (get s (Idle, i)) || elem b (entries B s i))
+          go (yes q) = rw (eq-eqb b (get s (Idle, i)) (q ∙ e), ← q) (get_or-set_same seen b true false (rw M.sized l))
+          go (no q) = rw (ne_eqb b (get s (Idle, i)) (λ z. q (z ∙ sym e))) (get_or-set_other seen a b true false q ∙ M.marks b l)
 
-    slots_next : (j : ℕ) → j < suc i → get s (Idle, j) < 256
-    slots_next j l = go (dec_lt j i)
-      where
-        go : Dec (j < i) → get s (Idle, j) < 256
-        go (yes m) = M.slots j m
-        go (no m) = let q : j ≡ i = omega arith in let k = ap (λ (x : ℕ). get s (Idle, x)) q in omega arith
+      slots_next : (j : ℕ) → j < suc i → get s (Idle, j) < 256
+      slots_next j l = go (dec_lt j i)
+        where
+          go : Dec (j < i) → get s (Idle, j) < 256
+          go (yes m) = M.slots j m
+          go (no m) = let q : j ≡ i = omega arith in let k = ap (λ (x : ℕ). get s (Idle, x)) q in omega arith
 
-    different-next : (not (get_or seen a false) && d) ≡ distinct (entries B s (suc i))
+      different-next : distinct (entries B s (suc i)) ≡ true
+      unfolding top_first distinct
+      different-next = rw (← e, ← M.marks a h, new, M.different)
+
+      pub marked_next : Marked B s (i + 1) (set seen a true)
+      marked_next = rw (add-one i) (record {
+        sized = length-set seen a true ∙ M.sized;
+        marks = marks-next;
+        slots = slots_next;
+        different = different-next;
+      })
+
+    -- With one it is among those before it: no longer prefix is of different entries.
+    pub repeated : get_or seen a false ≡ true → (n : ℕ) → i < n → distinct (entries B s n) ≡ false
     unfolding top_first distinct
-    different-next = rw (M.marks a h, M.different, e)
+    repeated old zero l = absurd (omega arith)
+    repeated old (suc n) l = go (repeated old n) (dec_lt i n)
+      where
+        go : (i < n → distinct (entries B s n) ≡ false) → Dec (i < n) → (not (elem (get s (Idle, n)) (entries B s n)) && distinct (entries B s n)) ≡ false
+        go before (yes m) = rw (before m) (and-false (not (elem (get s (Idle, n)) (entries B s n))))
+        go before (no m) = let q : n ≡ i = omega arith in rw (q, ← e, ← M.marks a h, old)
 
-    pub marked_next : Marked B s (i + 1) (set seen a true) (not (get_or seen a false) && d)
-    marked_next = rw (add-one i) (record {
-      sized = length-set seen a true ∙ M.sized;
-      marks = marks-next;
-      slots = slots_next;
-      different = different-next;
-    })
-
-  -- The test of the stack, by the free count n, whether its entries are different, and whether they are the empty slots.
-  pub tests-stack-sound : (n : ℕ) (d l : Bool) → n ≡ get s free → d ≡ distinct (entries B s n) → l ≡ all 256 (listed B s) → (leb n 256 && (d && l)) ≡ stack_sound B s
-  unfolding stack_sound stack
-  tests-stack-sound n d l en ed el = rw (el, ed, en)
-
--- A sound stack has room for every slot that holds a packet.
-pub sound-has-room : (B : Board) (L : Laws B) (s : List ℕ) (n : ℕ) (seen : List Bool) (d : Bool) → n ≡ B.get s free → Marked B s n seen d → stack_sound B s ≡ true → used B s ≤ 256
-sound-has-room B L s n seen d en M e = let u = sound-used B L s e (rw (← en) M.slots) in omega arith
+-- Where the slots of the stack are marked, and are the empty ones, there is room for every slot that holds a packet.
+pub marked-has-room : (B : Board) (L : Laws B) (s : List ℕ) (n : ℕ) (seen : List Bool) → n ≡ B.get s free → n ≤ 256 → Marked B s n seen → all 256 (listed B s) ≡ true → used B s ≤ 256
+unfolding stack_sound stack
+marked-has-room B L s n seen en l M el =
+    let sound : stack_sound B s ≡ true = rw (← en, le-leb n 256 l, M.different) el in
+    let u = sound-used B L s sound (rw (← en) M.slots) in
+    omega arith

@@ -1,11 +1,13 @@
--- `sound::connection_sound` meets its contract: each return has the tests made so far. Assumes nothing.
+-- `sound::connection_sound` meets its contract: the tests are those of the definition. Assumes nothing.
 use native.Mathlib.Omega.{arith}
-use borrow.Author.Tests.{lt-ltb, le-ltb}
-use Rattle.rules.proofs.FieldBytes.{half-one}
+use Rattle.std.proofs.lemmas.Bool.Decides.{nat_tests}
+use Rattle.rules.specs.Areas.{half}
 use Rattle.sound.proofs.connection_sound.Goals as goal
 
-pub returns-then-read-ge-HALF : goal.returns-then-read-ge-HALF
-returns-then-read-ge-HALF c = rw (half-one, ← c.read.ensures, le-ltb c.read.result 128 (omega arith))
+pub returns-then-get-lt-HALF : goal.returns-then-get-lt-HALF
+unfolding half
+returns-then-get-lt-HALF c = grind (arith, nat_tests)
 
-pub returns : goal.returns
-returns c = rw (half-one, ← c.read.ensures, lt-ltb c.read.result 128 (omega arith), ← c.read-2.ensures)
+pub returns-else-get-lt-HALF : goal.returns-else-get-lt-HALF
+unfolding half
+returns-else-get-lt-HALF c = grind (arith, nat_tests)

@@ -1,33 +1,27 @@
--- `sound::lowest_bad` meets its contract. The loop's invariant: the slots passed are sound. The measure is how many are left. Assumes nothing.
+-- `sound::lowest_bad` meets its contract: it seeks the first slot that isn't sound. Assumes nothing.
 use Prim.Native.Nat.{ℕ}
-use mathlib.Core.Bool.{Bool, not, ◌&&◌, beq}
-use mathlib.Core.List.{List}
-use mathlib.Core.Path.{◌≡◌, ap, ◌∙◌}
-use lib.Dec.{eqb}
-use Rattle.rules.specs.Board.{Mask, board8}
-use Rattle.rules.specs.Questions.{slot_sound, lowest_bad}
-use Rattle.passes.specs.Stores.{store}
-use Rattle.passes.proofs.FirstFailure.{passed_none, passed-next, lowest-at, lowest-none}
-use Rattle.passes.proofs.SlotTests.{passes-sound}
+use mathlib.Core.Path.{◌≡◌, refl}
+use mathlib.Core.Bool.{Bool, true, false}
+use native.Mathlib.Omega.{arith}
 use borrow.Author.Rules.{rules}
+use borrow.Author.Tests.{tests}
+use Rattle.std.proofs.lemmas.Iterator.{first_from_find, YieldsList-from_range, YieldsList-from_map}
+use Rattle.rules.specs.Board.{board8}
+use Rattle.rules.specs.Questions.{slot_sound, lowest_bad}
+use Rattle.layout.specs.declared.SlotAddress.{SlotAddress}
+use Rattle.passes.specs.Stores.{store}
+use Rattle.passes.proofs.Ranges.{first-by_find}
+use Rattle.sound.specs.Lowest.{slot_or_256}
 use Rattle.sound.proofs.lowest_bad.Goals as goal
 
--- The code's test is whether the slot is sound.
-tested : (s p : List ℕ) (i : ℕ) {m : ℕ} {r : Bool} → m ≡ board8.get s (Mask, i) → r ≡ (beq (eqb m 0) (eqb (board8.get s (Mask, i)) 0) && slot_sound board8 (store s p) i) → r ≡ slot_sound board8 (store s p) i
-tested s p i em e = e
-    ∙ ap (λ (m : ℕ). beq (eqb m 0) (eqb (board8.get s (Mask, i)) 0) && slot_sound board8 (store s p) i) em
-    ∙ passes-sound board8 (store s p) i
-
-pub loop-i-init : goal.loop-i-init
-loop-i-init c = passed_none _ _
-
-pub returns-then-not-slot_passes : goal.returns-then-not-slot_passes
-unfolding lowest_bad
-returns-then-not-slot_passes c = lowest-at _ _ c.loop-i.i _ (tested _ _ _ c.read-empty.ensures c.slot_passes.ensures) c.loop-i.invariant (ap not c.if-not-slot_passes.true)
-
-pub loop-i-preserved : goal.loop-i-preserved
-loop-i-preserved c = passed-next _ _ c.loop-i.i _ (tested _ _ _ c.read-empty.ensures c.slot_passes.ensures) c.loop-i.invariant (search rules) (ap not c.if-not-slot_passes.false)
+abbrev slot : ℕ → SlotAddress
+slot i = record { 0 = i }
 
 pub returns : goal.returns
 unfolding lowest_bad
-returns c = lowest-none _ _ c.loop-i.i c.loop-i.invariant c.loop-i-test.false
+returns c = first-by_find 256 test slot (λ s. s.0) slot_or_256 (λ i l. refl) refl (λ s. refl) c.find.result
+    (first_from_find _ _ c.find.result (λ (s : SlotAddress). test s.0 ≡ false) (λ (s : SlotAddress). test s.0 ≡ true) c.find.ensures.ran
+    (YieldsList-from_map _ slot (YieldsList-from_range 0 256 256 c.map.ensures.source (omega arith)) c.map.ensures.closure (λ x r q k. search rules)) (λ x q k. search (rules, tests)) (λ x q k. search (rules, tests)))
+  where
+    test : ℕ → Bool
+    test = slot_sound board8 (store c.args.state.now c.args.memory.now)

@@ -1,16 +1,14 @@
--- `sound::settings_sound` meets its contract: its parts are tested in order, and the first that fails decides. Assumes nothing.
+-- `sound::settings_sound` meets its contract: the tests are those of the definition. Assumes nothing.
+use native.Mathlib.Omega.{arith}
+use Rattle.std.proofs.lemmas.Bool.Decides.{nat_tests}
+use Rattle.rules.specs.Areas.{half}
 use Rattle.rules.specs.Questions.{settings_sound}
-use Rattle.rules.proofs.FieldBytes.{half-one}
 use Rattle.sound.proofs.settings_sound.Goals as goal
 
-pub returns-then-not-connections_sound : goal.returns-then-not-connections_sound
-unfolding settings_sound
-returns-then-not-connections_sound c = rw (← c.connections_sound.ensures, c.if-not-connections_sound.true)
+pub returns-then-get-le-ALL_PORTS : goal.returns-then-get-le-ALL_PORTS
+unfolding settings_sound half
+returns-then-get-le-ALL_PORTS c = grind (arith, nat_tests)
 
-pub returns-then-not-horizons_sound : goal.returns-then-not-horizons_sound
-unfolding settings_sound
-returns-then-not-horizons_sound c = rw (← c.connections_sound.ensures, c.if-not-connections_sound.false, ← c.horizons_sound.ensures, c.if-not-horizons_sound.true)
-
-pub returns : goal.returns
-unfolding settings_sound
-returns c = rw (← c.connections_sound.ensures, c.if-not-connections_sound.false, ← c.horizons_sound.ensures, c.if-not-horizons_sound.false, half-one) (cc)
+pub returns-else-get-le-ALL_PORTS : goal.returns-else-get-le-ALL_PORTS
+unfolding settings_sound half
+returns-else-get-le-ALL_PORTS c = grind (arith, nat_tests)

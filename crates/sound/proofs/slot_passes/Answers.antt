@@ -5,4 +5,4 @@ use Rattle.passes.proofs.SlotTests.{passes-idle}
 use Rattle.sound.proofs.slot_passes.Goals as goal
 
 pub returns-then-idle : goal.returns-then-idle
-returns-then-idle c = rw c.if-idle.true (passes-idle board8 (store c.args.state.now c.args.memory.now) c.args.s.0 c.read.ensures)
+returns-then-idle c = rw c.if-idle.true (passes-idle board8 (store c.args.state.now c.args.memory.now) c.args.s.0 c.get.ensures)
