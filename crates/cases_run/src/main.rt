@@ -1,466 +1,292 @@
 // Runs document 01's cases through the router's entries, compares all outgoing and answer bytes, and prints of each case what is expected and what was found.
 #![tactic(auto)]
 
-ghost use Rattle.std.specs.Prelude.{◌≡◌, ◌<◌, length};
-ghost use Rattle.rules.specs.Areas.{outgoing_length};
-
 use layout::Router;
-use std::io;
+use std::fmt::Display;
+use std::{array, fmt, io};
 
-fn print_byte(rt: &impl Print, name: &str, area: &[u8], at: usize) -> io::Result<()> {
-    let byte = layout::byte(area, at);
-    print!(rt; "{name}{byte}")
+// A packet's identifier, its time, and the first of its 18 bytes of data, all different. The first tells packets apart.
+#[derive(Clone, Copy)]
+struct Packet(u8, u8, u8);
+
+// The packets of the ports that have one.
+type Ports = [Option<Packet>; Router::PORTS];
+
+// A packet on port 0, or none.
+fn on_port_0(packet: Option<Packet>) -> Ports {
+    [packet, None, None, None, None]
 }
 
-// What a tick says of port 0: the arrival's answer and the port's, the identifier, the deadline and the first data byte that left, the packets withdrawn.
-fn print_seen(rt: &impl Print, outgoing: &[u8], answers: &[u8]) -> io::Result<()> {
-    print_byte(rt, " arrival ", answers, 5)?;
-    print_byte(rt, " port ", answers, 0)?;
-    print_byte(rt, " identifier ", outgoing, 0)?;
-    print_byte(rt, " deadline ", outgoing, 1)?;
-    print_byte(rt, " data ", outgoing, 2)?;
-    print_byte(rt, " withdrawn ", answers, 11)
+// Five packets of one time. The first byte of data goes up by one from port to port, and turns over at 256.
+fn on_each_port(identifiers: [u8; Router::PORTS], time: u8, first: u8) -> Ports {
+    array::from_fn(|port| { Some(Packet(identifiers[port], time, first.wrapping_add(port as u8))) })
 }
 
-fn print_verdict(rt: &impl Print, same: bool) -> io::Result<()> {
-    if same {
-        println!(rt; ": ok")
-    } else {
-        println!(rt; ": DIFFERS")
+// The area that holds them.
+fn area(ports: Ports) -> Packets {
+    let mut area = [0u8; Router::ARRIVALS];
+    for (port, packet) in ports.iter().enumerate() {
+        if let Some(Packet(identifier, time, first)) = *packet {
+            let at = Router::PACKET * port;
+            layout::copy_in(&[identifier, time, first], &mut area, at);
+            layout::copy_in(b"bcdefghijklmnopqr", &mut area, at + 3);
+        }
+    }
+    area
+}
+
+// What a tick gives.
+#[derive(Drop, PartialEq, Eq)]
+struct Reply {
+    outgoing: Packets,
+    answers: Answers,
+}
+
+// What it says of port 0: the arrival's answer and the port's, the identifier, the deadline and the first data byte that left, the packets withdrawn.
+impl Display for Reply {
+    fn fmt<W: fmt::Write>(&self, f: &mut fmt::Formatter<W>) -> fmt::Result {
+        write!(f, "arrival {} port {}", self.answers[5], self.answers[0])?;
+        write!(
+            f,
+            " identifier {} deadline {} data {}",
+            self.outgoing[0], self.outgoing[1], self.outgoing[2]
+        )?;
+        write!(f, " withdrawn {}", self.answers[11])
     }
 }
 
-// Outgoing and answers as they should be and as they are.
-fn report(
+fn report<T: PartialEq + Display>(
     rt: &impl Print,
     name: &str,
-    expected: &[u8],
-    answers: &[u8],
-    outgoing: &[u8],
-    answered: &[u8],
+    expected: &T,
+    found: &T,
 ) -> io::Result<()> {
-    print!(rt; "{name}: expected")?;
-    print_seen(rt, expected, answers)?;
-    print!(rt; ", found")?;
-    print_seen(rt, outgoing, answered)?;
-    print_verdict(rt, expected == outgoing && answers == answered)
+    let verdict = if expected == found { "ok" } else { "DIFFERS" };
+    println!(rt; "{name}: expected {expected}, found {found}: {verdict}")
 }
 
-fn report_number(rt: &impl Print, name: &str, expected: u64, found: u64) -> io::Result<()> {
-    print!(rt; "{name}: expected {expected}, found {found}")?;
-    print_verdict(rt, expected == found)
+// What a router is lent. Whether a call is refused is not looked at: the ticks that are compared show it.
+#[derive(Drop)]
+struct Board {
+    state: State,
+    memory: Memory,
 }
 
-// A packet of a port: identifier, time and 18 bytes of data, all different. The first of these tells packets apart.
-fn put_packet(area: &mut [u8], port: usize, identifier: u8, time: u8, first: u8)
-    requires { (length area.old ≡ outgoing_length) × (port < 5) }
-{
-    let at = Router::PACKET * port;
-    layout::put_byte(area, at, identifier);
-    layout::put_byte(area, at + 1, time);
-    layout::put_byte(area, at + 2, first);
-    layout::copy_in(b"bcdefghijklmnopqr", area, at + 3);
-}
-
-// Connection `incoming` gets an outgoing identifier, a delay and a mask.
-fn connect(state: &mut [u8], memory: &[u8], incoming: u8, outgoing: u8, delay: u8, mask: u8) {
-    router::router_control(state, memory, 0, outgoing);
-    router::router_control(state, memory, 1, delay);
-    router::router_control(state, memory, 2, mask);
-    router::router_control(state, memory, 3, incoming);
-}
-
-// A fresh router with connection 5 to port 0, as 33.
-fn prepare(state: &mut [u8], memory: &mut [u8], clock: u8, delay: u8, horizon: u8) {
-    router::router_fresh(state, memory, clock);
-    connect(state, memory, 5, 33, delay, 1);
-    router::router_control(state, memory, 4, 1);
-    router::router_control(state, memory, 5, horizon);
-}
-
-// A tick without best-effort, compared with what is expected. Outgoing and answers are lent full of nines.
-fn tick(
-    rt: &impl Print,
-    state: &mut [u8],
-    memory: &mut [u8],
-    arrivals: &[u8],
-    arriving: u8,
-    name: &str,
-    expected: &[u8],
-    answers: &[u8],
-) -> io::Result<()> {
-    let mut outgoing = [9u8; Router::OUTGOING];
-    let mut answered = [9u8; Router::ANSWERS];
-    router::router_tick(
-        state,
-        memory,
-        arrivals,
-        &mut outgoing,
-        &mut answered,
-        arriving,
-        0,
-    );
-    report(rt, name, expected, answers, &outgoing, &answered)
-}
-
-// What port 0 sends, if it does: packet 1.
-fn put_sent(expected: &mut [u8], port: u8, deadline: u8)
-    requires { length expected.old ≡ outgoing_length }
-{
-    if port != 0 {
-        put_packet(expected, 0, 33, deadline, 1);
+impl Board {
+    // A fresh router.
+    fn fresh(clock: u8) -> Board {
+        let mut board = Board {
+            state: [0u8; Router::STATE],
+            memory: [0u8; Router::MEMORY],
+        };
+        let _ = router::router_fresh(&mut board.state, &mut board.memory, clock);
+        board
     }
-}
 
-// A tick with a packet on port 0: its time and the first byte of its data; the arrival's answer and the port's, and the deadline with which port 0 sends packet 1.
-fn tick_one(
-    rt: &impl Print,
-    state: &mut [u8],
-    memory: &mut [u8],
-    name: &str,
-    time: u8,
-    first: u8,
-    arrival: u8,
-    port: u8,
-    deadline: u8,
-) -> io::Result<()> {
-    let mut arrivals = [0u8; Router::ARRIVALS];
-    let mut expected = [0u8; Router::OUTGOING];
-    let mut answers = [0u8; Router::ANSWERS];
-    put_packet(&mut arrivals, 0, 5, time, first);
-    answers[0] = port;
-    answers[5] = arrival;
-    put_sent(&mut expected, port, deadline);
-    tick(rt, state, memory, &arrivals, 1, name, &expected, &answers)
+    // A fresh router with connection 5 to port 0, as 33.
+    fn prepared(clock: u8, delay: u8, horizon: u8) -> Board {
+        let mut board = Board::fresh(clock);
+        board.connect(5, 33, delay, 1);
+        board.write(Register::Ports, 1);
+        board.write(Register::Horizon, horizon);
+        board
+    }
+
+    fn write(&mut self, register: Register, value: u8) {
+        let _ = router::router_control(&mut self.state, &self.memory, register.into(), value);
+    }
+
+    // Connection `incoming` gets an outgoing identifier, a delay and a mask.
+    fn connect(&mut self, incoming: u8, outgoing: u8, delay: u8, mask: u8) {
+        self.write(Register::Outgoing, outgoing);
+        self.write(Register::Delay, delay);
+        self.write(Register::Routes, mask);
+        self.write(Register::Connection, incoming);
+    }
+
+    // A tick without best-effort. Outgoing and answers are lent full of nines.
+    fn tick(&mut self, arriving: u8, arrivals: Ports) -> Reply {
+        let mut outgoing = [9u8; Router::OUTGOING];
+        let mut answers = [9u8; Router::ANSWERS];
+        let _ = router::router_tick(
+            &mut self.state,
+            &mut self.memory,
+            &area(arrivals),
+            &mut outgoing,
+            &mut answers,
+            arriving,
+            0,
+        );
+        Reply { outgoing, answers }
+    }
+
+    // A tick with a packet on port 0: its time and the first byte of its data; the arrival's answer; where port 0 sends packet 1, the port's answer and the deadline.
+    fn report_one(
+        &mut self,
+        rt: &impl Print,
+        name: &str,
+        time: u8,
+        first: u8,
+        arrival: u8,
+        sent: Option<(u8, u8)>,
+    ) -> io::Result<()> {
+        let mut answers = [0u8; Router::ANSWERS];
+        answers[0] = sent.map_or(0, |(port, _)| port);
+        answers[5] = arrival;
+        let left = sent.map(|(_, deadline)| Packet(33, deadline, 1));
+        let expected = Reply {
+            outgoing: area(on_port_0(left)),
+            answers,
+        };
+        let found = self.tick(1, on_port_0(Some(Packet(5, time, first))));
+        report(rt, name, &expected, &found)
+    }
+
+    // How many addresses are idle.
+    fn idle_count(&self) -> u16 {
+        layout::free_count(&self.state)
+    }
 }
 
 // One packet at t = 240: its delay, its port's horizon, its time; then as above.
-fn one(
-    rt: &impl Print,
-    name: &str,
-    delay: u8,
-    horizon: u8,
-    time: u8,
-    arrival: u8,
-    port: u8,
-    deadline: u8,
-) -> io::Result<()> {
-    let mut state = [0u8; Router::STATE];
-    let mut memory = [0u8; Router::MEMORY];
-    prepare(&mut state, &mut memory, 240, delay, horizon);
-    tick_one(
-        rt,
-        &mut state,
-        &mut memory,
-        name,
-        time,
-        1,
-        arrival,
-        port,
-        deadline,
-    )
-}
-
 fn one_packet(rt: &impl Print) -> io::Result<()> {
-    one(rt, "time 80, horizon 96", 40, 96, 80, 1, 3, 120)?;
-    one(rt, "time 80, horizon 95", 40, 95, 80, 1, 0, 0)?;
-    one(rt, "time 111, horizon 127", 40, 127, 111, 1, 3, 151)?;
-    one(rt, "time 111, horizon 126", 40, 126, 111, 1, 0, 0)?;
-    one(rt, "time 210", 40, 0, 210, 1, 1, 250)?;
-    one(rt, "time 200", 40, 0, 200, 1, 1, 240)?;
-    one(rt, "time 199", 40, 0, 199, 7, 0, 0)?;
-    one(rt, "time 112", 40, 127, 112, 7, 0, 0)?;
-    one(rt, "time 112, d = 127", 127, 127, 112, 7, 0, 0)?;
-    one(rt, "time 113, d = 127", 127, 0, 113, 1, 1, 240)?;
-    one(rt, "time 240, d = 0", 0, 0, 240, 1, 1, 240)
+    for (name, delay, horizon, time, arrival, sent) in [
+        ("time 80, horizon 96", 40, 96, 80, 1, Some((3, 120))),
+        ("time 80, horizon 95", 40, 95, 80, 1, None),
+        ("time 111, horizon 127", 40, 127, 111, 1, Some((3, 151))),
+        ("time 111, horizon 126", 40, 126, 111, 1, None),
+        ("time 210", 40, 0, 210, 1, Some((1, 250))),
+        ("time 200", 40, 0, 200, 1, Some((1, 240))),
+        ("time 199", 40, 0, 199, 7, None),
+        ("time 112", 40, 127, 112, 7, None),
+        ("time 112, d = 127", 127, 127, 112, 7, None),
+        ("time 113, d = 127", 127, 0, 113, 1, Some((1, 240))),
+        ("time 240, d = 0", 0, 0, 240, 1, Some((1, 240))),
+    ] {
+        let mut board = Board::prepared(240, delay, horizon);
+        board.report_one(rt, name, time, 1, arrival, sent)?;
+    }
+    Ok(())
 }
 
 // Two packets of time 240 and d = 0, on ports 0 and 1: the second is stored too, and withdrawn.
-fn two_packets(rt: &impl Print, state: &mut [u8], memory: &mut [u8]) -> io::Result<()> {
-    let mut arrivals = [0u8; Router::ARRIVALS];
-    let mut expected = [0u8; Router::OUTGOING];
-    let answers = [1, 0, 0, 0, 0, 1, 1, 0, 0, 0, 0, 1, 0, 0, 0, 0, 0, 0, 0, 0];
-    prepare(state, memory, 240, 0, 0);
-    put_packet(&mut arrivals, 0, 5, 240, 1);
-    put_packet(&mut arrivals, 1, 5, 240, 2);
-    put_packet(&mut expected, 0, 33, 240, 1);
-    tick(
-        rt,
-        state,
-        memory,
-        &arrivals,
-        3,
-        "time 240, d = 0, two of them",
-        &expected,
-        &answers,
-    )
+fn two_packets(rt: &impl Print) -> io::Result<()> {
+    let mut board = Board::prepared(240, 0, 0);
+    let mut arrivals = on_port_0(Some(Packet(5, 240, 1)));
+    arrivals[1] = Some(Packet(5, 240, 2));
+    let expected = Reply {
+        outgoing: area(on_port_0(Some(Packet(33, 240, 1)))),
+        answers: [1, 0, 0, 0, 0, 1, 1, 0, 0, 0, 0, 1, 0, 0, 0, 0, 0, 0, 0, 0],
+    };
+    let found = board.tick(3, arrivals);
+    report(rt, "time 240, d = 0, two of them", &expected, &found)
 }
 
-// The first byte of data of the nth packet, which turns over at 256.
-fn nth(first: u8, n: u8) -> u8 {
-    first.wrapping_add(n)
-}
-
-// Five arrivals of one time.
-fn put_five(area: &mut [u8], ids: [u8; Router::PORTS], time: u8, first: u8)
-    requires { length area.old ≡ outgoing_length }
-{
-    put_packet(area, 0, ids[0], time, first);
-    put_packet(area, 1, ids[1], time, nth(first, 1));
-    put_packet(area, 2, ids[2], time, nth(first, 2));
-    put_packet(area, 3, ids[3], time, nth(first, 3));
-    put_packet(area, 4, ids[4], time, nth(first, 4));
-}
-
-// A tick with five arrivals, which isn't compared.
-fn tick_unseen(state: &mut [u8], memory: &mut [u8], arrivals: &[u8]) {
-    let mut outgoing = [0u8; Router::OUTGOING];
-    let mut answers = [0u8; Router::ANSWERS];
-    router::router_tick(state, memory, arrivals, &mut outgoing, &mut answers, 31, 0);
-}
-
-// The same, all of one time.
-fn tick_five(state: &mut [u8], memory: &mut [u8], ids: [u8; Router::PORTS], time: u8, first: u8) {
-    let mut arrivals = [0u8; Router::ARRIVALS];
-    put_five(&mut arrivals, ids, time, first);
-    tick_unseen(state, memory, &arrivals);
-}
-
-// Connections 1 and 2 have one delay and port 0, connection 3 has port 4.
-fn connect_three(state: &mut [u8], memory: &mut [u8]) {
-    router::router_fresh(state, memory, 238);
-    connect(state, memory, 1, 2, 40, 1);
-    connect(state, memory, 2, 9, 40, 1);
-    connect(state, memory, 3, 3, 40, 16);
-}
-
-// Slots 2 and 9 get packets of connections 1 and 2, the others get those of connection 3.
-fn fill_ten(state: &mut [u8], memory: &mut [u8]) {
-    connect_three(state, memory);
-    tick_five(state, memory, [3, 3, 1, 3, 3], 240, 1);
-    tick_five(state, memory, [3, 3, 3, 3, 2], 240, 6);
-}
-
-// A tick without arrivals, in which port 0 sends a packet of this identifier, and port 4 one of connection 3.
-fn tick_ten(
-    rt: &impl Print,
-    state: &mut [u8],
-    memory: &mut [u8],
-    name: &str,
-    identifier: u8,
-    first: u8,
-    third: u8,
-) -> io::Result<()> {
-    let arrivals = [0u8; Router::ARRIVALS];
-    let mut expected = [0u8; Router::OUTGOING];
-    let answers = [1, 0, 0, 0, 1, 0, 0, 0, 0, 0, 0, 0, 0, 0, 0, 0, 0, 0, 0, 0];
-    put_packet(&mut expected, 0, identifier, 24, first);
-    put_packet(&mut expected, 4, 3, 24, third);
-    tick(rt, state, memory, &arrivals, 0, name, &expected, &answers)
-}
-
-fn equal_keys(rt: &impl Print, state: &mut [u8], memory: &mut [u8]) -> io::Result<()> {
-    fill_ten(state, memory);
-    tick_ten(
-        rt,
-        state,
-        memory,
-        "one time and one deadline in slots 9 and 2, first",
-        2,
-        3,
-        1,
-    )?;
-    tick_ten(
-        rt,
-        state,
-        memory,
-        "one time and one deadline in slots 9 and 2, next",
-        9,
-        10,
-        2,
-    )
-}
-
-// A fresh router with connections 5 and 7 to port 0, as 33 and 35, each with its delay, and 6 to port 1.
-fn connect_tied(
-    state: &mut [u8],
-    memory: &mut [u8],
-    clock: u8,
-    horizon: u8,
-    delay7: u8,
-    delay5: u8,
-) {
-    prepare(state, memory, clock, delay5, horizon);
-    connect(state, memory, 6, 34, 40, 2);
-    connect(state, memory, 7, 35, delay7, 1);
-}
-
-// The tick at `clock`: slot 2 gets a packet of connection 7, slots 0, 1, 3 and 4 those of connection 6, early in this tick and the next.
-fn tick_slot2(state: &mut [u8], memory: &mut [u8], clock: u8, time: u8) {
-    let mut arrivals = [0u8; Router::ARRIVALS];
-    put_five(&mut arrivals, [6; Router::PORTS], nth(clock, 11), 1);
-    put_packet(&mut arrivals, 2, 7, time, 3);
-    tick_unseen(state, memory, &arrivals);
-}
-
-// The next tick: slot 9 gets a packet of connection 5, slots 5 to 8 those of connection 6. Port 0 sends that of slot 9, under its deadline.
-fn tick_slot9(
-    rt: &impl Print,
-    state: &mut [u8],
-    memory: &mut [u8],
-    name: &str,
-    clock: u8,
-    time: u8,
-    port: u8,
-    deadline: u8,
-) -> io::Result<()> {
-    let mut arrivals = [0u8; Router::ARRIVALS];
-    let mut expected = [0u8; Router::OUTGOING];
-    let mut answers = [0, 0, 0, 0, 0, 1, 1, 1, 1, 1, 0, 0, 0, 0, 0, 0, 0, 0, 0, 0];
-    answers[0] = port;
-    put_five(&mut arrivals, [6; Router::PORTS], nth(clock, 11), 6);
-    put_packet(&mut arrivals, 4, 5, time, 10);
-    put_packet(&mut expected, 0, 33, deadline, 10);
-    print!(rt; "slots 9 and 2, ")?;
-    tick(rt, state, memory, &arrivals, 31, name, &expected, &answers)
-}
-
-// Equal keys in slots 9 and 2, where slot 9's packet goes first: the clock before that tick, and port 0's horizon; delay and time of slot 2's packet, then of slot 9's;
-// the port's answer, and the deadline with which it sends slot 9's.
-fn nine_first(
-    rt: &impl Print,
-    name: &str,
-    clock: u8,
-    horizon: u8,
-    delay2: u8,
-    time2: u8,
-    delay9: u8,
-    time9: u8,
-    port: u8,
-    deadline: u8,
-) -> io::Result<()> {
-    let mut state = [0u8; Router::STATE];
-    let mut memory = [0u8; Router::MEMORY];
-    connect_tied(&mut state, &mut memory, clock, horizon, delay2, delay9);
-    tick_slot2(&mut state, &mut memory, clock, time2);
-    tick_slot9(
-        rt,
-        &mut state,
-        &mut memory,
-        name,
-        clock,
-        time9,
-        port,
-        deadline,
-    )
-}
-
-// On time, the earlier time goes first; early, the earlier deadline. At t = 240, and after the clock's turn at t = 0.
-fn ties(rt: &impl Print) -> io::Result<()> {
-    nine_first(rt, "times 210 and 240", 239, 0, 10, 240, 40, 210, 1, 250)?;
-    nine_first(rt, "times 246 and 0", 255, 0, 10, 0, 20, 246, 1, 10)?;
-    nine_first(rt, "deadlines 90 and 120", 239, 96, 40, 80, 10, 80, 3, 90)?;
-    nine_first(rt, "deadlines 251 and 25", 239, 1, 40, 241, 10, 241, 3, 251)?;
-    nine_first(
-        rt,
-        "deadlines 128 and 223",
-        255,
-        96,
-        127,
-        96,
-        32,
-        96,
-        3,
-        128,
-    )
-}
-
-// How many addresses are idle.
-fn idle_count(state: &[u8]) -> u64 {
-    (layout::byte(state, 10) as u64) * 256 + layout::byte(state, 11) as u64
-}
-
-// A packet for all five ports arrives.
-fn tick_all(rt: &impl Print, state: &mut [u8], memory: &mut [u8]) -> io::Result<()> {
-    let mut arrivals = [0u8; Router::ARRIVALS];
-    let mut expected = [0u8; Router::OUTGOING];
-    let answers = [1, 1, 1, 1, 1, 1, 0, 0, 0, 0, 0, 0, 0, 0, 0, 0, 0, 0, 0, 0];
-    put_packet(&mut arrivals, 0, 5, 240, 1);
-    put_packet(&mut expected, 0, 33, 24, 1);
-    put_packet(&mut expected, 1, 33, 24, 1);
-    put_packet(&mut expected, 2, 33, 24, 1);
-    put_packet(&mut expected, 3, 33, 24, 1);
-    put_packet(&mut expected, 4, 33, 24, 1);
-    tick(
-        rt,
-        state,
-        memory,
-        &arrivals,
-        1,
-        "mask 31, time 240, all five ports",
-        &expected,
-        &answers,
-    )
-}
-
-fn five_ports(rt: &impl Print, state: &mut [u8], memory: &mut [u8]) -> io::Result<()> {
-    router::router_fresh(state, memory, 240);
-    connect(state, memory, 5, 33, 40, 31);
-    tick_all(rt, state, memory)?;
-    report_number(
-        rt,
-        "mask 31, time 240, idle addresses",
-        256,
-        idle_count(state),
-    )?;
-    report_number(
-        rt,
-        "mask 31, time 240, next address",
-        0,
-        layout::byte(state, 267) as u64,
-    )
-}
-
-// 255 packets for time 240, five a tick.
-fn fill(state: &mut [u8], memory: &mut [u8]) {
-    for i in 0..51 {
-        tick_five(state, memory, [5; Router::PORTS], 240, 5 * i + 1);
+// Connections 1 and 2 have one delay and port 0, connection 3 has port 4. Slots 2 and 9 get packets of connections 1 and 2, the others get those of connection 3.
+// Then two ticks without arrivals: the identifier of the packet that port 0 sends, its first byte of data, and that of the packet that port 4 sends.
+fn equal_keys(rt: &impl Print) -> io::Result<()> {
+    let mut board = Board::fresh(238);
+    board.connect(1, 2, 40, 1);
+    board.connect(2, 9, 40, 1);
+    board.connect(3, 3, 40, 16);
+    board.tick(31, on_each_port([3, 3, 1, 3, 3], 240, 1));
+    board.tick(31, on_each_port([3, 3, 3, 3, 2], 240, 6));
+    for (name, identifier, first, third) in [("first", 2, 3, 1), ("next", 9, 10, 2)] {
+        let mut left = on_port_0(Some(Packet(identifier, 24, first)));
+        left[4] = Some(Packet(3, 24, third));
+        let expected = Reply {
+            outgoing: area(left),
+            answers: [1, 0, 0, 0, 1, 0, 0, 0, 0, 0, 0, 0, 0, 0, 0, 0, 0, 0, 0, 0],
+        };
+        let found = board.tick(0, on_port_0(None));
+        print!(rt; "one time and one deadline in slots 9 and 2, ")?;
+        report(rt, name, &expected, &found)?;
     }
+    Ok(())
 }
 
-// A tick with one more.
-fn tick_more(
-    rt: &impl Print,
-    state: &mut [u8],
-    memory: &mut [u8],
-    name: &str,
-    arrival: u8,
-    port: u8,
-) -> io::Result<()> {
-    tick_one(rt, state, memory, name, 240, 0, arrival, port, 24)
+// Equal keys in slots 9 and 2, where slot 9's packet goes first: on time, the earlier time; early, the earlier deadline. At t = 240, and after the clock's turn at t = 0.
+// The clock before that tick, and port 0's horizon; delay and time of slot 2's packet, of connection 7, then of slot 9's, of connection 5; the port's answer and the deadline.
+// The other slots get packets of connection 6, for port 1, which are early in both ticks.
+fn ties(rt: &impl Print) -> io::Result<()> {
+    for (name, clock, horizon, (delay2, time2), (delay9, time9), (port, deadline)) in [
+        ("times 210 and 240", 239, 0, (10, 240), (40, 210), (1, 250)),
+        ("times 246 and 0", 255, 0, (10, 0), (20, 246), (1, 10)),
+        ("deadlines 90 and 120", 239, 96, (40, 80), (10, 80), (3, 90)),
+        (
+            "deadlines 251 and 25",
+            239,
+            1,
+            (40, 241),
+            (10, 241),
+            (3, 251),
+        ),
+        (
+            "deadlines 128 and 223",
+            255,
+            96,
+            (127, 96),
+            (32, 96),
+            (3, 128),
+        ),
+    ] {
+        let mut board = Board::prepared(clock, delay9, horizon);
+        board.connect(6, 34, 40, 2);
+        board.connect(7, 35, delay2, 1);
+        let early = clock.wrapping_add(11);
+        let mut first = on_each_port([6; Router::PORTS], early, 1);
+        first[2] = Some(Packet(7, time2, 3));
+        board.tick(31, first);
+        let mut second = on_each_port([6; Router::PORTS], early, 6);
+        second[4] = Some(Packet(5, time9, 10));
+        let expected = Reply {
+            outgoing: area(on_port_0(Some(Packet(33, deadline, 10)))),
+            answers: [
+                port, 0, 0, 0, 0, 1, 1, 1, 1, 1, 0, 0, 0, 0, 0, 0, 0, 0, 0, 0,
+            ],
+        };
+        let found = board.tick(31, second);
+        print!(rt; "slots 9 and 2, ")?;
+        report(rt, name, &expected, &found)?;
+    }
+    Ok(())
 }
 
-fn all_stored(rt: &impl Print, state: &mut [u8], memory: &mut [u8]) -> io::Result<()> {
-    prepare(state, memory, 188, 40, 0);
-    fill(state, memory);
-    tick_more(rt, state, memory, "the 256th packet", 1, 0)?;
-    report_number(rt, "256 stored, idle addresses", 0, idle_count(state))?;
-    tick_more(rt, state, memory, "256 stored, the next arrival", 8, 1)?;
-    report_number(
-        rt,
-        "256 stored, idle addresses after that tick",
-        1,
-        idle_count(state),
-    )
+// A packet for all five ports.
+fn five_ports(rt: &impl Print) -> io::Result<()> {
+    let mut board = Board::fresh(240);
+    board.connect(5, 33, 40, 31);
+    let expected = Reply {
+        outgoing: area([Some(Packet(33, 24, 1)); Router::PORTS]),
+        answers: [1, 1, 1, 1, 1, 1, 0, 0, 0, 0, 0, 0, 0, 0, 0, 0, 0, 0, 0, 0],
+    };
+    let found = board.tick(1, on_port_0(Some(Packet(5, 240, 1))));
+    let idle = board.idle_count();
+    let next = board.state[267];
+    report(rt, "mask 31, time 240, all five ports", &expected, &found)?;
+    report(rt, "mask 31, time 240, idle addresses", &256, &idle)?;
+    report(rt, "mask 31, time 240, next address", &0, &next)
+}
+
+// 255 packets for time 240, five a tick, then one more, and again one.
+fn all_stored(rt: &impl Print) -> io::Result<()> {
+    let mut board = Board::prepared(188, 40, 0);
+    for i in 0..51 {
+        board.tick(31, on_each_port([5; Router::PORTS], 240, 5 * i + 1));
+    }
+    board.report_one(rt, "the 256th packet", 240, 0, 1, None)?;
+    let idle = board.idle_count();
+    report(rt, "256 stored, idle addresses", &0, &idle)?;
+    board.report_one(rt, "256 stored, the next arrival", 240, 0, 8, Some((1, 24)))?;
+    let idle = board.idle_count();
+    report(rt, "256 stored, idle addresses after that tick", &1, &idle)
 }
 
 fn main(rt: HostRuntime) -> io::Result<()> {
-    let mut state = [0u8; Router::STATE];
-    let mut memory = [0u8; Router::MEMORY];
     one_packet(&rt)?;
-    two_packets(&rt, &mut state, &mut memory)?;
-    equal_keys(&rt, &mut state, &mut memory)?;
+    two_packets(&rt)?;
+    equal_keys(&rt)?;
     ties(&rt)?;
-    five_ports(&rt, &mut state, &mut memory)?;
-    all_stored(&rt, &mut state, &mut memory)
+    five_ports(&rt)?;
+    all_stored(&rt)
 }

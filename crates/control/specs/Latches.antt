@@ -16,7 +16,3 @@ latch_with l r v =
       routes = cond (eqb r 2) v l.routes;
       horizons = cond (eqb r 4) v l.horizons;
     }
-
--- A latch's byte of register r, which is 0, 1, 2 or 4.
-abbrev pub latch_byte : Latch → ℕ → ℕ
-latch_byte l r = cond (eqb r 0) l.outgoing (cond (eqb r 1) l.delay (cond (eqb r 2) l.routes l.horizons))

@@ -1,13 +1,72 @@
-// Control writes: the control latch, the two commits, and which value fits a register.
+// Control writes: the registers, the control latch, the two commits, and which value fits a register.
 #![tactic(auto)]
 
-ghost use Rattle.std.specs.Prelude.{◌≡◌, ◌≤◌};
-ghost use Rattle.rules.specs.Areas.{fits, latch_place};
+ghost use Rattle.std.specs.Prelude.{◌≡◌};
+ghost use Rattle.rules.specs.Areas.{fits};
 ghost use Rattle.rules.specs.Board.{Latch as LatchField, board8};
 ghost use Rattle.rules.specs.Questions.{commit_entry, commit_horizon, written};
-ghost use Rattle.control.specs.Latches.{latch_of, latch_with, latch_byte};
+ghost use Rattle.control.specs.Latches.{latch_of, latch_with};
+ghost use Rattle.control.specs.Registers.{register_number, Names};
 
-use layout::{ConnectionId, Field, Router};
+use layout::{ConnectionId, Field, Port, Refusal, Router};
+
+// The control registers, 0 to 5 in this order. `Connection` and `Horizon` are commits; the others are stored.
+#[derive(Clone, Copy, Debug, PartialEq, Eq)]
+pub enum Register {
+    Outgoing,
+    Delay,
+    Routes,
+    Connection,
+    Ports,
+    Horizon,
+}
+
+impl From<Register> for u8 {
+    ghost from_gives = { λ register number. number ≡ register_number register };
+
+    fn from(register: Register) -> u8 {
+        match register {
+            Register::Outgoing => 0,
+            Register::Delay => 1,
+            Register::Routes => 2,
+            Register::Connection => 3,
+            Register::Ports => 4,
+            Register::Horizon => 5,
+        }
+    }
+}
+
+impl TryFrom<u8> for Register {
+    type Error = Refusal;
+
+    ghost try_from_gives = { Names };
+
+    fn try_from(number: u8) -> Result<Register, Refusal> {
+        match number {
+            0 => Ok(Register::Outgoing),
+            1 => Ok(Register::Delay),
+            2 => Ok(Register::Routes),
+            3 => Ok(Register::Connection),
+            4 => Ok(Register::Ports),
+            5 => Ok(Register::Horizon),
+            _ => Err(Refusal::Register),
+        }
+    }
+}
+
+impl Register {
+    // Does the value fit the register?
+    #[tactic(auto, unfolding(rules::specs::Areas::fits, rules::specs::Areas::half))]
+    pub fn fits(self, value: u8) -> bool
+        ensures { result ≡ fits 1 (register_number self) value }
+    {
+        match self {
+            Register::Delay | Register::Horizon => value < Router::HALF,
+            Register::Routes | Register::Ports => value <= Router::ALL_PORTS,
+            Register::Outgoing | Register::Connection => true,
+        }
+    }
+}
 
 // The control latch: the bytes last written to registers 0, 1, 2 and 4, which wait for a commit.
 #[derive(Clone, Copy)]
@@ -23,42 +82,37 @@ impl Latch {
     pub fn read(state: &[u8]) -> Latch
         ensures { result ≡ latch_of state.now }
     {
-        let outgoing = layout::get(state, Field::Latch(0));
-        let delay = layout::get(state, Field::Latch(1));
-        let routes = layout::get(state, Field::Latch(2));
-        let horizons = layout::get(state, Field::Latch(3));
         Latch {
-            outgoing,
-            delay,
-            routes,
-            horizons,
+            outgoing: layout::get(state, Field::Latch(0)),
+            delay: layout::get(state, Field::Latch(1)),
+            routes: layout::get(state, Field::Latch(2)),
+            horizons: layout::get(state, Field::Latch(3)),
         }
     }
 
-    // The latch with a register stored; the commits, 3 and 5, leave it.
+    // The latch with a register stored; the commits, 3 and 5, leave it, and so does a byte that names no register.
+    // A byte and not a `Register`: `Latch::with` and `store` promise what they leave for every byte, and may not ask more.
     pub fn with(self, register: u8, value: u8) -> Latch
         ensures { result ≡ latch_with self register value }
     {
-        let mut next = self;
-        match register {
-            0 => next.outgoing = value,
-            1 => next.delay = value,
-            2 => next.routes = value,
-            4 => next.horizons = value,
-            _ => {}
-        }
-        next
-    }
-
-    // The byte of a stored register: 0, 1, 2 or 4.
-    fn byte(self, register: u8) -> u8
-        ensures { result ≡ latch_byte self register }
-    {
-        match register {
-            0 => self.outgoing,
-            1 => self.delay,
-            2 => self.routes,
-            _ => self.horizons,
+        match Register::try_from(register) {
+            Ok(Register::Outgoing) => Latch {
+                outgoing: value,
+                ..self
+            },
+            Ok(Register::Delay) => Latch {
+                delay: value,
+                ..self
+            },
+            Ok(Register::Routes) => Latch {
+                routes: value,
+                ..self
+            },
+            Ok(Register::Ports) => Latch {
+                horizons: value,
+                ..self
+            },
+            _ => self,
         }
     }
 }
@@ -67,22 +121,7 @@ impl Latch {
 pub fn store(latch: &mut Latch, register: u8, value: u8)
     ensures { latch.new ≡ latch_with latch.old register value }
 {
-    *latch = (*latch).with(register, value);
-}
-
-// The latch with a register stored by `store`, for callers that have it by value.
-fn stored_in(mut latch: Latch, register: u8, value: u8) -> Latch
-    ensures { result ≡ latch_with latch register value }
-{
-    store(&mut latch, register, value);
-    latch
-}
-
-// Where a stored register waits in the latch.
-fn latch_place(register: u8) -> u8
-    ensures { result ≡ latch_place register }
-{
-    if register == 4 { 3 } else { register }
+    *latch = latch.with(register, value);
 }
 
 // Register 3: the latch becomes the entry of a connection.
@@ -95,46 +134,40 @@ fn commit_entry(state: &mut [u8], connection: ConnectionId)
     layout::put(state, Field::Routes(connection), latch.routes);
 }
 
-const PORTS: u8 = Router::PORTS as u8;
-
 // Register 5: a horizon for each port in the latch's mask.
+#[tactic(auto, unfolding(rules::specs::Questions::commit_horizon))]
 fn commit_horizon(state: &mut [u8], horizon: u8)
     ensures { state.new ≡ commit_horizon board8 5 (board8.get state.old (LatchField, 3)) horizon state.old }
 {
-    let latch = Latch::read(state);
-    let mask = latch.horizons;
-    let mut port: u8 = 0;
-    while port < PORTS {
-        if layout::has_port(mask, port) {
-            layout::put(state, Field::Horizon(port), horizon);
+    let mask = Latch::read(state).horizons;
+    for index in 0..Port::COUNT {
+        if layout::has_port(mask, Port { index }) {
+            layout::put(state, Field::Horizon(index), horizon);
         }
-        port += 1;
     }
 }
 
 // An accepted control write.
-pub fn write_register(state: &mut [u8], register: u8, value: u8)
-    requires { register ≤ 5 }
-    ensures { state.new ≡ written board8 register value state.old }
+#[tactic(auto, unfolding(rules::specs::Questions::written))]
+pub fn write_register(state: &mut [u8], register: Register, value: u8)
+    ensures { state.new ≡ written board8 (register_number register) value state.old }
 {
+    let mut latch = Latch::read(state);
+    store(&mut latch, register.into(), value);
     match register {
-        3 => commit_entry(state, ConnectionId(value)),
-        5 => commit_horizon(state, value),
-        _ => {
-            let latch = stored_in(Latch::read(state), register, value);
-            let place = latch_place(register);
-            layout::put(state, Field::Latch(place), latch.byte(register))
-        }
+        Register::Outgoing => layout::put(state, Field::Latch(0), latch.outgoing),
+        Register::Delay => layout::put(state, Field::Latch(1), latch.delay),
+        Register::Routes => layout::put(state, Field::Latch(2), latch.routes),
+        Register::Connection => commit_entry(state, ConnectionId(value)),
+        Register::Ports => layout::put(state, Field::Latch(3), latch.horizons),
+        Register::Horizon => commit_horizon(state, value),
     }
 }
 
-// Does the value fit the register?
+// Does the value fit the register of this number? A byte that names no register takes any.
+#[tactic(auto, unfolding(rules::specs::Areas::fits))]
 pub fn value_fits(register: u8, value: u8) -> bool
     ensures { result ≡ fits 1 register value }
 {
-    match register {
-        1 | 5 => value < Router::HALF,
-        2 | 4 => value <= Router::ALL_PORTS,
-        _ => true,
-    }
+    Register::try_from(register).map_or(true, |r| r.fits(value))
 }

@@ -6,6 +6,7 @@ ghost use Rattle.rules.specs.Areas.{number_reply, Outcome, Store};
 ghost use Rattle.rules.specs.Board.{board8};
 ghost use Rattle.rules.specs.Questions.{make_fresh};
 ghost use Rattle.passes.specs.Stores.{store};
+ghost use Rattle.layout.specs.Numbers.{answer_of};
 ghost use Rattle.layout.specs.Slots.{empty};
 ghost use Rattle.fresh.specs.Slots.{emptied};
 
@@ -27,16 +28,16 @@ fn put_slots(state: &mut [u8], slots: [Slot; Router::SLOTS])
 }
 
 // Makes state and memory those of a fresh router.
-pub fn make_fresh(state: &mut [u8], memory: &mut [u8], clock: u8) -> u8
+pub fn make_fresh(state: &mut [u8], memory: &mut [u8], clock: u8) -> Result<(), Refusal>
     ensures { ◌≡◌ {A = Outcome Store}
-        (record { reply = number_reply result; after = store state.new memory.new })
+        (record { reply = number_reply (answer_of result); after = store state.new memory.new })
         (make_fresh board8 (store state.old memory.old) clock) }
 {
     if state.len() != Router::STATE {
-        return Refusal::Lengths.number();
+        return Err(Refusal::Lengths);
     }
     if memory.len() != Router::MEMORY {
-        return Refusal::Lengths.number();
+        return Err(Refusal::Lengths);
     }
     let router = Router::fresh(ClockReading(clock));
     let bytes = router.bytes;
@@ -44,5 +45,5 @@ pub fn make_fresh(state: &mut [u8], memory: &mut [u8], clock: u8) -> u8
     layout::copy_in(&bytes, state, 0);
     put_slots(state, slots);
     layout::clear(memory);
-    Refusal::Accepted.number()
+    Ok(())
 }

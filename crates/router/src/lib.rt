@@ -5,32 +5,31 @@ ghost use Rattle.std.specs.Prelude.{◌≡◌, take, drop};
 ghost use Rattle.rules.specs.Areas.{number_reply, Outcome, Store};
 ghost use Rattle.rules.specs.Board.{board8};
 ghost use Rattle.rules.specs.Questions.{make_fresh, control_write, tick};
+ghost use Rattle.layout.specs.Numbers.{answer_of};
 ghost use Rattle.layout.specs.Version.{version};
 ghost use Rattle.display.specs.Display.{display, display_start};
 
-use layout::Router;
+use control::Register;
+use layout::{Refusal, Router};
 
 // Makes state and memory those of a fresh router.
-pub fn router_fresh(state: &mut [u8], memory: &mut [u8], clock: u8) -> u8
+pub fn router_fresh(state: &mut [u8], memory: &mut [u8], clock: u8) -> Result<(), Refusal>
     ensures { ◌≡◌ {A = Outcome Store}
-        (record { reply = number_reply result; after = record { state = state.new; memory = memory.new } })
+        (record { reply = number_reply (answer_of result); after = record { state = state.new; memory = memory.new } })
         (make_fresh board8 (record { state = state.old; memory = memory.old }) clock) }
 {
     fresh::make_fresh(state, memory, clock)
 }
 
 // Writes a value to a control register.
-pub fn router_control(state: &mut [u8], memory: &[u8], register: u8, value: u8) -> u8
+pub fn router_control(state: &mut [u8], memory: &[u8], register: u8, value: u8) -> Result<(), Refusal>
     ensures { ◌≡◌ {A = Outcome Store}
-        (record { reply = number_reply result; after = record { state = state.new; memory = memory.now } })
+        (record { reply = number_reply (answer_of result); after = record { state = state.new; memory = memory.now } })
         (control_write board8 (record { state = state.old; memory = memory.now }) register value) }
 {
-    let number = questions::of_control(state, memory, register, value).number();
-    if number != 0 {
-        return number;
-    }
-    control::write_register(state, register, value);
-    number
+    questions::of_control(state, memory, register, value)?;
+    control::write_register(state, Register::try_from(register).unwrap(), value);
+    Ok(())
 }
 
 // One tick of the clock.
@@ -42,22 +41,24 @@ pub fn router_tick(
     answers: &mut [u8],
     arriving: u8,
     waiting: u8,
-) -> u8
+) -> Result<(), Refusal>
     ensures { ◌≡◌ {A = Outcome Store}
-        (record { reply = record { number = result; outgoing = outgoing.new; answers = answers.new }; after = record { state = state.new; memory = memory.new } })
+        (record { reply = record { number = answer_of result; outgoing = outgoing.new; answers = answers.new }; after = record { state = state.new; memory = memory.new } })
         (tick board8 (record { state = state.old; memory = memory.old }) arriving waiting arrivals.now outgoing.old answers.old) }
 {
-    let n = questions::of_tick(
+    questions::of_tick(
         state, memory, arrivals, outgoing, answers, arriving, waiting,
-    )
-    .number();
-    if n != 0 {
-        return n;
-    }
+    )?;
     tick::work(
-        state, memory, arrivals, outgoing, answers, arriving, waiting,
+        state.as_mut_array().unwrap(),
+        memory.as_mut_array().unwrap(),
+        arrivals.as_array().unwrap(),
+        outgoing.as_mut_array().unwrap(),
+        answers.as_mut_array().unwrap(),
+        arriving,
+        waiting,
     );
-    n
+    Ok(())
 }
 
 // Where the display part of a port starts in the outgoing area; the area's length where it is empty.
