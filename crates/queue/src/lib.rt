@@ -12,8 +12,6 @@ use layout::{ClockReading, Field, Router, SlotAddress};
 // Its bytes: the size in two, high first, and an entry for each slot.
 pub const LENGTH: usize = 258;
 
-pub type Queue = [u8; LENGTH];
-
 const ENTRIES: usize = 2;
 
 pub fn size(queue: &[u8]) -> u16
@@ -34,16 +32,16 @@ pub fn resize(queue: &mut [u8], n: u16)
     layout::put_pair(queue, 0, n);
 }
 
-// An entry, read and stored without a test of its place.
-fn slot(queue: &Queue, j: usize) -> SlotAddress
-    requires { j < 256 }
+// An entry that the queue has, read and stored without a test of its length.
+fn slot(queue: &[u8], j: usize) -> SlotAddress
+    requires { 2 + j < length queue.now }
     ensures { result.0 ≡ Area.entry queue.now j }
 {
     SlotAddress(queue[ENTRIES + j])
 }
 
-fn put_slot(queue: &mut Queue, j: usize, s: SlotAddress)
-    requires { j < 256 }
+fn put_slot(queue: &mut [u8], j: usize, s: SlotAddress)
+    requires { 2 + j < length queue.old }
     ensures { queue.new ≡ Area.put_entry queue.old j s.0 }
 {
     queue[ENTRIES + j] = s.0;
@@ -59,8 +57,8 @@ pub fn is_early(state: &[u8], s: SlotAddress) -> bool
 }
 
 // Moves the first ones of n up by one, as far as they go before slot s, and says where s has its place.
-fn make_room(queue: &mut Queue, state: &[u8], t: ClockReading, s: SlotAddress, n: usize) -> usize
-    requires { (t.0 ≡ board8.get state.now clock) × (n < 256) }
+fn make_room(queue: &mut [u8], state: &[u8], t: ClockReading, s: SlotAddress, n: usize) -> usize
+    requires { (t.0 ≡ board8.get state.now clock) × (length queue.old ≡ Area.queue_length) × (n < 256) }
     ensures { (result ≤ n) × (Area.put_entry queue.new result s.0 ≡ Area.placed (before board8 state.now) s.0 n queue.old) }
 {
     let rank = choose::rank(state, t, s);
@@ -75,7 +73,8 @@ fn make_room(queue: &mut Queue, state: &[u8], t: ClockReading, s: SlotAddress, n
 }
 
 // Slot s comes in, at its place in the comparator's order; a full queue stays as it is.
-pub fn insert(queue: &mut Queue, state: &[u8], s: SlotAddress)
+pub fn insert(queue: &mut [u8], state: &[u8], s: SlotAddress)
+    requires { length queue.old ≡ Area.queue_length }
     ensures { queue.new ≡ Area.inserted (before board8 state.now) s.0 queue.old }
 {
     let n = size(queue);

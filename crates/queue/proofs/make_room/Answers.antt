@@ -18,7 +18,7 @@ returns-then-rank c =
 pub loop-j-preserved : goal.loop-j-preserved
 loop-j-preserved c i h k =
     rw c.put_slot.ensures
-      (placed-below _ _ _ _ (omega arith) c.slot-other.ensures _ _ (lower-before board8 _ _ _ (omega arith) h _ _ c.rank.ensures.rank k (omega (arith, c.if-rank.false))) ∙ c.loop-j.invariant i h k)
+    (placed-below _ _ _ _ (omega arith) c.slot-other.ensures _ _ (lower-before board8 _ _ _ (omega arith) h _ _ c.rank.ensures.rank k (omega (arith, c.if-rank.false))) ∙ c.loop-j.invariant i h k)
 
 pub returns : goal.returns
 returns c =
