@@ -14,15 +14,13 @@ ghost use Rattle.table1.specs.Firsts.{slot_of};
 ghost use Rattle.table1.specs.Sorts.{early_of};
 
 use choose::Grant;
-use layout::{Field, Router, SlotAddress, State};
+use layout::{Field, Port, Router, SlotAddress, State};
 use std::ops::Range;
 
-// The area's bytes, a queue of each sort for each port; and the ports, counted in a byte.
+// The area's bytes, a queue of each sort for each port.
 pub const LENGTH: usize = 2580;
 
 pub type Queues = [u8; LENGTH];
-
-pub const PORTS: u8 = 5;
 
 // The sorts of a port's queues, and of a slot.
 #[derive(Clone, Copy, PartialEq, Eq)]
@@ -42,27 +40,24 @@ impl Sort {
 }
 
 // Where the queue of a port and a sort stands.
-fn span(port: u8, sort: Sort) -> Range<usize>
-    requires { port < 5 }
-    ensures start { result.start ≡ queue_at port (early_of sort) }
+fn span(port: Port, sort: Sort) -> Range<usize>
+    ensures start { result.start ≡ queue_at port.index (early_of sort) }
     ensures end { (result.end ≡ result.start + 258) × (result.end ≤ 2580) }
 {
-    let start = queue::LENGTH * (2 * port as usize + sort as usize);
+    let start = queue::LENGTH * (2 * port.index as usize + sort as usize);
     start..start + queue::LENGTH
 }
 
 // The queue of a port and a sort.
-pub fn part(queues: &Queues, port: u8, sort: Sort) -> &[u8]
-    requires { port < 5 }
-    ensures { result.now ≡ Area.queue queues.now port (early_of sort) }
+pub fn part(queues: &Queues, port: Port, sort: Sort) -> &[u8]
+    ensures { result.now ≡ Area.queue queues.now port.index (early_of sort) }
 {
     &queues[span(port, sort)]
 }
 
 // The first of the queue of a port and a sort.
-pub fn front(queues: &Queues, port: u8, sort: Sort) -> Option<SlotAddress>
-    requires { port < 5 }
-    ensures { slot_of result ≡ Engine.first (Area.queue queues.now port (early_of sort)) }
+pub fn front(queues: &Queues, port: Port, sort: Sort) -> Option<SlotAddress>
+    ensures { slot_of result ≡ Engine.first (Area.queue queues.now port.index (early_of sort)) }
 {
     let queue = part(queues, port, sort);
     let last = queue::size(queue).checked_sub(1)?;
@@ -70,27 +65,26 @@ pub fn front(queues: &Queues, port: u8, sort: Sort) -> Option<SlotAddress>
 }
 
 // Slot s comes into the queue of a port and a sort.
-fn insert(queues: &mut Queues, state: &[u8], s: SlotAddress, port: u8, sort: Sort)
-    requires { port < 5 }
-    ensures { queues.new ≡ put_queue port (early_of sort) (inserted (before board8 state.now) s.0 (Area.queue queues.old port (early_of sort))) queues.old }
+fn insert(queues: &mut Queues, state: &[u8], s: SlotAddress, port: Port, sort: Sort)
+    ensures { queues.new ≡ put_queue port.index (early_of sort) (inserted (before board8 state.now) s.0 (Area.queue queues.old port.index (early_of sort))) queues.old }
 {
     queue::insert(&mut queues[span(port, sort)], state, s);
 }
 
 // A step at each port, one port after the other.
-fn each_port<F: Fn(&mut Queues, u8)>(queues: &mut Queues, step: F)
-    requires { (x : _) (p : ℕ) → p < 5 → F.pre step x p }
-    ensures { (f : ℕ → List ℕ → List ℕ) → ((x y : MutBor (List ℕ)) (p : ℕ) → p < 5 → F.post step x p tt y → y.now ≡ f p x.now) → queues.new ≡ Engine.each_port f 5 queues.old }
+fn each_port<F: Fn(&mut Queues, Port)>(queues: &mut Queues, step: F)
+    requires { (x : _) (p : _) → F.pre step x p }
+    ensures { (f : ℕ → List ℕ → List ℕ) → ((x y : MutBor (List ℕ)) (p : Port) → F.post step x p tt y → y.now ≡ f p.index x.now) → queues.new ≡ Engine.each_port f 5 queues.old }
 {
-    for p in 0..PORTS {
-        step(queues, p);
+    for index in 0..Port::COUNT {
+        step(queues, Port { index });
     }
 }
 
 // Slot s comes into a port's queue of its sort, if its mask has the port.
-fn enter_port(queues: &mut Queues, state: &[u8], s: SlotAddress, mask: u8, sort: Sort, port: u8)
-    requires { (port < 5) × (mask ≡ board8.get state.now (Mask, s.0)) × (early_of sort ≡ is_early board8 state.now s.0) }
-    ensures { queues.new ≡ Engine.enter board8 state.now s.0 port queues.old }
+fn enter_port(queues: &mut Queues, state: &[u8], s: SlotAddress, mask: u8, sort: Sort, port: Port)
+    requires { (mask ≡ board8.get state.now (Mask, s.0)) × (early_of sort ≡ is_early board8 state.now s.0) }
+    ensures { queues.new ≡ Engine.enter board8 state.now s.0 port.index queues.old }
 {
     if layout::has_port(mask, port) {
         insert(queues, state, s, port, sort);
@@ -108,7 +102,7 @@ fn enter(queues: &mut Queues, state: &[u8], s: SlotAddress)
     let sort = Sort::of(state, s);
     each_port(
         queues,
-        |queues, p| enter_port(queues, state, s, mask, sort, p),
+        |queues, port| enter_port(queues, state, s, mask, sort, port),
     );
 }
 
@@ -133,17 +127,15 @@ pub fn receive(queues: &mut Queues, state: &State, n: u16)
 }
 
 // The first of a queue leaves it.
-fn shorten(queues: &mut Queues, port: u8, sort: Sort)
-    requires { port < 5 }
-    ensures { queues.new ≡ Engine.shortened port (early_of sort) queues.old }
+fn shorten(queues: &mut Queues, port: Port, sort: Sort)
+    ensures { queues.new ≡ Engine.shortened port.index (early_of sort) queues.old }
 {
     queue::shorten(&mut queues[span(port, sort)]);
 }
 
 // Step 3 for one port that has this grant.
-fn sent_port(queues: &mut Queues, g: Grant, port: u8)
-    requires { port < 5 }
-    ensures { queues.new ≡ Engine.sent_from (grant_of g) port queues.old }
+fn sent_port(queues: &mut Queues, g: Grant, port: Port)
+    ensures { queues.new ≡ Engine.sent_from (grant_of g) port.index queues.old }
 {
     match g {
         Grant::Nobody | Grant::BestEffort => {}
@@ -156,13 +148,12 @@ fn sent_port(queues: &mut Queues, g: Grant, port: u8)
 pub fn sent(queues: &mut Queues, grants: [Grant; Router::PORTS])
     ensures { queues.new ≡ Engine.each_port (λ p. Engine.sent_from (grant_at grants p) p) 5 queues.old }
 {
-    each_port(queues, |queues, p| sent_port(queues, grants[p as usize], p));
+    each_port(queues, |queues, port| sent_port(queues, grants[port.index as usize], port));
 }
 
 // Step 4 for one port.
-fn withdraw_port(queues: &mut Queues, state: &[u8], port: u8)
-    requires { port < 5 }
-    ensures { queues.new ≡ Engine.due_from board8 state.now port queues.old }
+fn withdraw_port(queues: &mut Queues, state: &[u8], port: Port)
+    ensures { queues.new ≡ Engine.due_from board8 state.now port.index queues.old }
 {
     let n = queue::undue(part(queues, port, Sort::OnTime), state);
     queue::resize(&mut queues[span(port, Sort::OnTime)], n);
@@ -172,13 +163,12 @@ fn withdraw_port(queues: &mut Queues, state: &[u8], port: u8)
 pub fn withdraw(queues: &mut Queues, state: &[u8])
     ensures { queues.new ≡ Engine.each_port (Engine.due_from board8 state.now) 5 queues.old }
 {
-    each_port(queues, |queues, p| withdraw_port(queues, state, p));
+    each_port(queues, |queues, port| withdraw_port(queues, state, port));
 }
 
 // One port's slots that are not early any more move over.
-fn move_port(queues: &mut Queues, state: &[u8], port: u8)
-    requires { port < 5 }
-    ensures { queues.new ≡ Engine.move_over board8 state.now port queues.old }
+fn move_port(queues: &mut Queues, state: &[u8], port: Port)
+    ensures { queues.new ≡ Engine.move_over board8 state.now port.index queues.old }
 {
     for j in (0..queue::size(part(queues, port, Sort::Early))).rev() {
         let s = queue::entry(part(queues, port, Sort::Early), j);
@@ -194,5 +184,5 @@ fn move_port(queues: &mut Queues, state: &[u8], port: u8)
 pub fn move_over(queues: &mut Queues, state: &[u8])
     ensures { queues.new ≡ Engine.each_port (Engine.move_over board8 state.now) 5 queues.old }
 {
-    each_port(queues, |queues, p| move_port(queues, state, p));
+    each_port(queues, |queues, port| move_port(queues, state, port));
 }

@@ -1,15 +1,14 @@
--- `table1::each_port` meets its contract. The loop's invariant: the ports below `p` are done. Assumes nothing.
+-- `table1::each_port` meets its contract. The loop's invariant: the ports below `index` are done. Assumes nothing.
 use mathlib.Core.Path.{refl, ap, ◌∙◌}
 use native.Mathlib.Numerals.{add-one}
-use native.Mathlib.Omega.{arith}
 use Rattle.queues.specs.Engine.{each_port}
 use Rattle.table1.proofs.each_port.Goals as goal
 
-pub loop-p-init : goal.loop-p-init
+pub loop-index-init : goal.loop-index-init
 unfolding each_port
-loop-p-init g c f h = refl
+loop-index-init g c f h = refl
 
-pub loop-p-preserved : goal.loop-p-preserved
+pub loop-index-preserved : goal.loop-index-preserved
 unfolding each_port
-loop-p-preserved g c f h =
-    rw (add-one c.loop-p.p) (h _ _ c.loop-p.p (omega arith) c.step.ensures ∙ ap (f c.loop-p.p) (c.loop-p.invariant f h))
+loop-index-preserved g c f h =
+    rw (add-one c.loop-index.index) (h _ _ _ c.step.ensures ∙ ap (f c.loop-index.index) (c.loop-index.invariant f h))

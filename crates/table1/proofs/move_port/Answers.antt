@@ -11,7 +11,7 @@ returns-then-is_early c =
 
 pub loop-j-preserved : goal.loop-j-preserved
 loop-j-preserved c =
-    moved-more board8 _ _ _ _ _ _ (omega arith) (rw c.part-in-loop-j.ensures at c.entry-s.ensures) (sym c.if-is_early.ensures) _ _ c.shorten.ensures c.shorten.array_long c.requires c.insert.ensures ∙ c.loop-j.invariant
+    moved-more board8 _ _ _ _ _ _ (omega arith) (rw c.part-in-loop-j.ensures at c.entry-s.ensures) (sym c.if-is_early.ensures) _ _ c.shorten.ensures c.shorten.array_long (omega arith) c.insert.ensures ∙ c.loop-j.invariant
 
 pub returns : goal.returns
 returns c = moved-none board8 _ _ _ _ (omega arith) ∙ c.loop-j.invariant

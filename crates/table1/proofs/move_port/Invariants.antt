@@ -5,4 +5,4 @@ use Rattle.queues.specs.Engine.{moved_over, move_over}
 use Rattle.table1.proofs.move_port.Given as goal
 
 abbrev pub invariant-loop-j : goal.invariant-loop-j
-invariant-loop-j l = moved_over board8 l.state l.port l.j l.queues ≡ move_over board8 l.state l.port l.initial.queues
+invariant-loop-j l = moved_over board8 l.state l.port.index l.j l.queues ≡ move_over board8 l.state l.port.index l.initial.queues

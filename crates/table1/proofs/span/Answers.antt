@@ -15,4 +15,4 @@ tag-early OnTime = refl
 tag-early Early = refl
 
 pub returns-clause-start : goal.returns-clause-start
-returns-clause-start c = ap (λ (n : ℕ). 258 * (2 * c.args.port + n)) (tag-early c.args.sort)
+returns-clause-start c = ap (λ (n : ℕ). 258 * (2 * c.args.port.index + n)) (tag-early c.args.sort)

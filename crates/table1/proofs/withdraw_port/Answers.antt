@@ -11,4 +11,4 @@ returns c =
     let s = c.span.ensures in
     let q = c.args.queues.now in
     part-changed _ _ _ _ s.start s.end.0 q c.told-queues s.end.1 (resized c.undue-n.result) _ c.resize.ensures c.resize.auto.queue
-    ∙ ap (λ (n : ℕ). put_queue c.args.port false (resized n (queue q c.args.port false)) q) (rw c.part.ensures at c.undue-n.ensures)
+    ∙ ap (λ (n : ℕ). put_queue c.args.port.index false (resized n (queue q c.args.port.index false)) q) (rw c.part.ensures at c.undue-n.ensures)
