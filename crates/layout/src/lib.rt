@@ -1,7 +1,7 @@
 // The layout of what the router is lent: its sizes, the numbers of refusals, the fields of the state, a port's bit, and a copy.
 #![tactic(auto)]
 
-ghost use Rattle.std.specs.Prelude.{◌≡◌, ◌+◌, ◌*◌, ◌/◌, ◌%◌, ◌^◌, ◌≤◌, ◌<◌, length, get_or, set, replicate};
+ghost use Rattle.std.specs.Prelude.{◌≡◌, ◌+◌, ◌*◌, ◌/◌, ◌%◌, ◌^◌, ◌≤◌, ◌<◌, ◌↔◌, IsSome, IfSome, length, get_or, set, replicate};
 ghost use Rattle.std.proofs.lemmas.List.Edits.{sets};
 ghost use Rattle.rules.specs.Areas.{has};
 ghost use Rattle.rules.specs.Board.{Time, Deadline, free, board8, table8};
@@ -18,6 +18,30 @@ pub struct ConnectionId(pub u8);
 
 #[derive(Clone, Copy)]
 pub struct ClockReading(pub u8);
+
+// A port, 0 to 4.
+#[derive(Clone, Copy, Debug, PartialEq, Eq)]
+pub struct Port {
+    pub index: u8,
+    ghost in_range: { index < 5 },
+}
+
+impl Port {
+    // How many there are, for a loop over their indices.
+    pub const COUNT: u8 = Router::PORTS as u8;
+
+    // The port of that index, if there is one.
+    pub fn new(index: u8) -> Option<Port>
+        ensures found { IsSome result ↔ (index < 5) }
+        ensures port { IfSome result (λ port. port.index ≡ index) }
+    {
+        if index < Port::COUNT {
+            Some(Port { index })
+        } else {
+            None
+        }
+    }
+}
 
 // A slot's three bytes: logical arrival time, deadline, mask of ports still to serve.
 #[derive(Clone, Copy)]
@@ -274,9 +298,8 @@ pub fn put_free(state: &mut State, n: u16)
     put_pair(state, 10, n);
 }
 
-pub fn has_port(mask: u8, port: u8) -> bool
-    requires { port < 5 }
-    ensures { result ≡ has mask port }
+pub fn has_port(mask: u8, port: Port) -> bool
+    ensures { result ≡ has mask port.index }
 {
-    (mask >> port) % 2 == 1
+    (mask >> port.index) % 2 == 1
 }
