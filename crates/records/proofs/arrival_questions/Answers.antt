@@ -2,14 +2,15 @@
 use borrow.Author.Tests.{le-leb, lt-leb}
 use Rattle.records.specs.Records.{arrival_refusal}
 use Rattle.records.proofs.arrival_questions.Goals as goal
+use Rattle.records.proofs.arrival_questions.Goals.{then-not-is_blank-via-then-not-is_blank, then-not-is_blank-via-else-not-is_blank+then-port-gt4}
 
 pub returns-then-not-is_blank : goal.returns-then-not-is_blank
 unfolding arrival_refusal
-returns-then-not-is_blank c = rw (← c.is_blank.ensures, c.if-not-is_blank.true)
-
-pub returns-then-port-gt4 : goal.returns-then-port-gt4
-unfolding arrival_refusal
-returns-then-port-gt4 c = rw (← c.is_blank.ensures, c.if-not-is_blank.false, lt-leb _ 4 c.if-port-gt4.true)
+returns-then-not-is_blank c =
+    elim c.then-not-is_blank.branch [
+      | then-not-is_blank-via-then-not-is_blank w ↦ rw (← c.is_blank.ensures, w.if-not-is_blank.true)
+      | then-not-is_blank-via-else-not-is_blank+then-port-gt4 w ↦ rw (← c.is_blank.ensures, w.if-not-is_blank.false, lt-leb _ 4 w.if-port-gt4.true)
+    ]
 
 pub returns-then-has_port : goal.returns-then-has_port
 unfolding arrival_refusal
