@@ -7,7 +7,7 @@ ghost use Rattle.rules.specs.Areas.{per_port};
 ghost use Rattle.text.specs.Lines.{decimal, digits_of, hex, field, refused_line, withdrawn, port_field, withdrawn_sum, tick_text, tick_line};
 
 use arrayvec::ArrayVec;
-use layout::Router;
+use layout::{Port, Router};
 
 // A character so many times.
 pub fn put_repeated<const N: usize>(lines: &mut ArrayVec<u8, N>, count: usize, b: u8)
@@ -44,8 +44,8 @@ pub fn put_decimal<const N: usize>(lines: &mut ArrayVec<u8, N>, width: usize, va
 
 // How many digits a number has without zeros in front.
 pub fn digits(number: u64) -> usize
-    ensures value { result ≡ digits_of number }
-    ensures upper_bound { result ≤ 20 }
+    ensures count { result ≡ digits_of number }
+    ensures bound { result ≤ 20 }
 {
     match number.checked_ilog10() {
         Some(power) => power as usize + 1,
@@ -55,8 +55,8 @@ pub fn digits(number: u64) -> usize
 
 // The same, and at least six.
 fn record_digits(number: u64) -> usize
-    ensures value { result ≡ max 6 (digits_of number) }
-    ensures upper_bound { result ≤ 20 }
+    ensures count { result ≡ max 6 (digits_of number) }
+    ensures bound { result ≤ 20 }
 {
     digits(number).max(6)
 }
@@ -103,7 +103,7 @@ fn identified(identifier: u8, letter: u8) -> [u8; 3]
     ]
 }
 
-// A port's field, from its answer and the outgoing identifier.
+// A port's field, from its answer and the outgoing identifier. The answer stays a number, since the C interface has it as a byte, and `field` says what each of the 256 shows.
 #[tactic(auto, unfolding(crate::specs::Lines::field))]
 fn field_bytes(code: u8, identifier: u8) -> [u8; 3]
     ensures { result ≡ field code identifier }
@@ -130,16 +130,17 @@ pub fn put_field<const N: usize>(lines: &mut ArrayVec<u8, N>, code: u8, identifi
 #[tactic(auto, unfolding(crate::specs::Lines::port_field))]
 fn put_port<const N: usize>(
     lines: &mut ArrayVec<u8, N>,
-    port: usize,
+    port: Port,
     outgoing: &[u8],
     answers: &[u8],
 )
-    requires { (array_vec_len lines.old + 4 ≤ N) × (port < 5) }
-    ensures appended { lines.new.items ≡ lines.old.items ++ port_field outgoing.now answers.now port }
+    requires { array_vec_len lines.old + 4 ≤ N }
+    ensures appended { lines.new.items ≡ lines.old.items ++ port_field outgoing.now answers.now port.index }
     ensures len { array_vec_len lines.new ≡ array_vec_len lines.old + 4 }
 {
-    let code = layout::byte(answers, port);
-    let identifier = layout::byte(outgoing, Router::PACKET * port);
+    let place = usize::from(port.index);
+    let code = layout::byte(answers, place);
+    let identifier = layout::byte(outgoing, Router::PACKET * place);
     lines.push(b' ');
     put_field(lines, code, identifier);
 }
@@ -150,31 +151,27 @@ fn put_ports<const N: usize>(lines: &mut ArrayVec<u8, N>, outgoing: &[u8], answe
     ensures appended { lines.new.items ≡ lines.old.items ++ per_port (port_field outgoing.now answers.now) }
     ensures len { array_vec_len lines.new ≡ array_vec_len lines.old + 20 }
 {
-    for port in 0..Router::PORTS {
-        put_port(lines, port, outgoing, answers);
+    for index in 0..Port::COUNT {
+        put_port(lines, Port { index }, outgoing, answers);
     }
 }
 
 // How many packets were withdrawn on a port.
-pub fn withdrawn_on(answers: &[u8], port: usize) -> u16
-    requires { port < 5 }
-    ensures { result ≡ withdrawn answers.now port }
+pub fn withdrawn_on(answers: &[u8], port: Port) -> u16
+    ensures { result ≡ withdrawn answers.now port.index }
 {
-    u16::from_be_bytes([
-        layout::byte(answers, 10 + 2 * port),
-        layout::byte(answers, 11 + 2 * port),
-    ])
+    layout::pair(answers, 10 + 2 * usize::from(port.index))
 }
 
 // How many packets were withdrawn in all.
 #[tactic(auto, unfolding(crate::specs::Lines::withdrawn_below))]
 pub fn withdrawn_sum(answers: &[u8]) -> u64
-    ensures value { result ≡ withdrawn_sum answers.now }
-    ensures upper_bound { result ≤ 327675 }
+    ensures sum { result ≡ withdrawn_sum answers.now }
+    ensures bound { result ≤ 327675 }
 {
     let mut sum = 0;
-    for port in 0..Router::PORTS {
-        sum += u64::from(withdrawn_on(answers, port));
+    for index in 0..Port::COUNT {
+        sum += u64::from(withdrawn_on(answers, Port { index }));
     }
     sum
 }

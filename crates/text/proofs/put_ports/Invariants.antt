@@ -5,8 +5,8 @@ use Rattle.rules.specs.Areas.{ports_below}
 use Rattle.text.specs.Lines.{port_field}
 use Rattle.text.proofs.put_ports.Given as goal
 
-abbrev pub invariant-loop-port : goal.invariant-loop-port
-invariant-loop-port g l = record {
-  appended : l.lines.items ≡ l.initial.lines.items ++ ports_below (port_field l.outgoing l.answers) l.port;
-  len : array_vec_len l.lines ≡ array_vec_len l.initial.lines + 4 * l.port;
+abbrev pub invariant-loop-index : goal.invariant-loop-index
+invariant-loop-index g l = record {
+  appended : l.lines.items ≡ l.initial.lines.items ++ ports_below (port_field l.outgoing l.answers) l.index;
+  len : array_vec_len l.lines ≡ array_vec_len l.initial.lines + 4 * l.index;
 }

@@ -3,5 +3,5 @@ use Rattle.std.proofs.Common.{◌≡◌, ◌*◌, ◌≤◌}
 use Rattle.text.specs.Lines.{withdrawn_below}
 use Rattle.text.proofs.withdrawn_sum.Given as goal
 
-abbrev pub invariant-loop-port : goal.invariant-loop-port
-invariant-loop-port l = (l.sum ≤ 65535 * l.port) × (l.sum ≡ withdrawn_below l.answers l.port)
+abbrev pub invariant-loop-index : goal.invariant-loop-index
+invariant-loop-index l = (l.sum ≤ 65535 * l.index) × (l.sum ≡ withdrawn_below l.answers l.index)
