@@ -72,4 +72,4 @@ byte_of Tick = tick_kind
 
 -- The kind of a byte, or 10 where no kind has it.
 abbrev pub Decodes : ℕ → Result Kind Refusal → Type 0
-Decodes b r = MatchResult r (λ kind. byte_of kind ≡ b) (λ refusal. (refusal ≡ UnknownKind) × ((kind : Kind) → byte_of kind ≢ b))
+Decodes b r = MatchResult r (λ kind. byte_of kind ≡ b) (λ refusal. (refusal ≡ UnknownKind) × (b ≢ control_kind) × (b ≢ arrival_kind) × (b ≢ tick_kind))

@@ -5,6 +5,8 @@ ghost use Rattle.std.specs.Prelude.{◌≡◌, ◌≤◌, IfOk};
 ghost use Rattle.rules.specs.Areas.{byte};
 ghost use Rattle.records.specs.Records.{record_length, blank, unused_refusal, arrival_refusal, record_refusal, number_of, answer_of, byte_of, Decodes};
 
+use layout::Port;
+
 // The bytes of a record.
 pub const RECORD: usize = 24;
 
@@ -61,6 +63,7 @@ fn is_blank(bytes: &[u8]) -> bool
 }
 
 // Are unused bytes zero, those from a place on?
+#[tactic(auto, unfolding(crate::specs::Records::unused_refusal))]
 fn unused_questions(bytes: &[u8; RECORD], from: usize) -> Result<(), Refusal>
     requires { from ≤ record_length }
     ensures { answer_of result ≡ unused_refusal bytes.now from }
@@ -73,13 +76,14 @@ fn unused_questions(bytes: &[u8; RECORD], from: usize) -> Result<(), Refusal>
 }
 
 // Of an arrival: are unused bytes zero and is the port at most 4, is that port without a packet for the coming tick?
+#[tactic(auto, unfolding(crate::specs::Records::arrival_refusal))]
 fn arrival_questions(pending: u8, bytes: &[u8; RECORD]) -> Result<(), Refusal>
     ensures { answer_of result ≡ arrival_refusal pending bytes.now }
 {
-    let port = bytes[1];
-    if !is_blank(&bytes[2..4]) || 4 < port {
+    if !is_blank(&bytes[2..4]) {
         return Err(Refusal::Unused);
     }
+    let port = Port::new(bytes[1]).ok_or(Refusal::Unused)?;
     if layout::has_port(pending, port) {
         return Err(Refusal::Occupied);
     }
@@ -87,6 +91,7 @@ fn arrival_questions(pending: u8, bytes: &[u8; RECORD]) -> Result<(), Refusal>
 }
 
 // Questions 9 to 12 of a record, when the ports of a mask have a packet for the coming tick already: its kind, or why it is refused.
+#[tactic(auto, unfolding(crate::specs::Records::record_refusal, crate::specs::Records::kind_refusal))]
 pub fn questions(pending: u8, bytes: &[u8]) -> Result<Kind, Refusal>
     ensures answered { answer_of result ≡ record_refusal pending bytes.now }
     ensures kind { IfOk result (λ kind. byte_of kind ≡ byte bytes.now 0) }
