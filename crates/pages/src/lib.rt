@@ -169,8 +169,8 @@ impl Page {
         ensures put_paged { (number : ℕ) (records : List ℕ) → PutPaged (Printing.with_event self.old (event_of number records event outgoing.now answers.now)) self.new lines.old.items lines.new.items }
         ensures len { array_vec_len lines.new ≤ array_vec_len lines.old + 146 }
     {
-        if let Event::Ticked(clock) = event {
-            self.put_tick(lines, clock, outgoing, answers);
+        if let Ok(Some(clock)) = event {
+            self.put_tick(lines, clock.0, outgoing, answers);
         }
     }
 
