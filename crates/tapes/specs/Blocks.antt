@@ -3,8 +3,7 @@ use Rattle.std.specs.Prelude.{ℕ, ◌+◌, ◌*◌, ◌/◌, ◌≡◌, Bool, t
 use mathlib.Core.List.{List, [], ◌∷◌, ◌++◌, flatten}
 use Rattle.records.specs.Records.{record_length, records_in}
 use Rattle.events.specs.Tape.{Tape, start, after}
-use Rattle.pages.specs.declared.Page.{Page}
-use Rattle.pages.specs.Printing.{unbegun}
+use Rattle.pages.specs.Printing.{Page, unbegun}
 use Rattle.tapes.specs.declared.printing.Style.{Style}
 use Rattle.tapes.specs.Printed.{printed, print_events, print_end}
 
