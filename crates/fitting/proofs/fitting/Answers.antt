@@ -34,7 +34,7 @@ one-misfit f p l h = go (all 5 f) refl
 
 pub returns-then-not-port_fits : goal.returns-then-not-port_fits
 unfolding Engine.fitting
-returns-then-not-port_fits c = one-misfit _ _ c.loop-index-test.true c.if-not-port_fits.ensures
+returns-then-not-port_fits c = one-misfit _ _ (omega arith) c.if-not-port_fits.ensures
 
 pub returns : goal.returns
 unfolding Engine.fitting
