@@ -16,7 +16,7 @@ pub record Place : Type 0 where
 abbrev pub begin : Place
 begin = record { tape = start; number = 0; page = unbegun 1 }
 
--- The records of a block, as `stepping::run` takes them: the place after them, and their text.
+-- The records of a block, as `Place::run` takes them: the place after them, and their text.
 pub record Turned : Type 0 where
   pub place : Place
   pub text : List ℕ

@@ -12,11 +12,12 @@ pub returns-in_err-router_tick : goal.returns-in_err-router_tick
 returns-in_err-router_tick g c = λ k.
     let σ = tape_of c.args.self.now in
     let outcome = rw c.byte-waiting.ensures at c.in_err-router_tick.ensures in
+    let taken = rw (call-number c.in_err-router_tick.field-0.0) at (ap (λ (o : Outcome Store). after_tick σ k o) outcome) in
     let p = err_from_is_err_and c.from_residual.result c.from_residual.ensures.1 in
-    rw (p.1, p.2, ← tick-same σ k c.args.bytes.now c.args.reply.now.outgoing c.args.reply.now.answers (search rules) (search rules), ← outcome, call-number c.in_err-router_tick.field-0.0)
+    rw (p.1, p.2) (taken ∙ tick-same σ k c.args.bytes.now c.args.reply.now.outgoing c.args.reply.now.answers (search rules) (search rules))
 
 pub returns : goal.returns
 returns g c = λ k.
     let σ = tape_of c.args.self.now in
     let outcome = rw c.byte-waiting.ensures at c.in_ok-router_tick.ensures in
-    rw (← tick-same σ k c.args.bytes.now c.args.reply.now.outgoing c.args.reply.now.answers (search rules) (search rules), ← outcome, c.get-clock.ensures)
+    rw (c.get-clock.ensures) (ap (λ (o : Outcome Store). after_tick σ k o) outcome ∙ tick-same σ k c.args.bytes.now c.args.reply.now.outgoing c.args.reply.now.answers (search rules) (search rules))
