@@ -11,7 +11,7 @@ use events::Event;
 use layout::{ClockReading, Port, Router};
 use pages::Page;
 
-// What is printed of a tape: its lines, or its pages. An enum, since `printed` and `ReadsPrintTheTape` (specs) are over a style.
+// What is printed of a tape: its lines, or its pages. An enum, since `printed` and `ReadsPrintTheTape` (specs) are over a style; the page at hand goes beside it, since `print_event` and the place between blocks have one in either style.
 #[derive(Clone, Copy)]
 pub enum Style {
     Lines,

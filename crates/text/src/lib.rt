@@ -20,7 +20,7 @@ pub fn put_repeated<const N: usize>(lines: &mut ArrayVec<u8, N>, count: usize, b
     }
 }
 
-// The last digits of a number, one in each place.
+// The last digits of a number, one in each place. The loop goes by index, since the check knows nothing of what `iter_mut().rev()` leaves.
 fn fill_decimal(digits: &mut [u8], value: u64)
     ensures { digits.new ≡ decimal (length digits.old) value }
 {
