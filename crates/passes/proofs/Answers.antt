@@ -1,37 +1,14 @@
--- What questions come to by the answers that the code has, one question after the other. Assumes nothing.
+-- What questions come to by the number of those before them. Assumes nothing.
 use Prim.Native.Nat.{ℕ}
-use mathlib.Core.Path.{◌≡◌, refl, sym, ◌∙◌}
-use mathlib.Core.Bool.{Bool, true, false, not}
-use mathlib.Core.List.{List, [], ◌∷◌, ◌++◌}
+use mathlib.Core.Path.{◌≡◌}
+use mathlib.Core.Bool.{Bool, true}
+use mathlib.Core.List.{List, ◌++◌}
 use mathlib.Core.Logic.{◌≢◌}
-use borrow.Author.Tests.{eq-eqb, ne_eqb, not-true, not-false}
+use borrow.Author.Tests.{eq-eqb, ne_eqb}
 use Rattle.rules.specs.Areas.{asked}
 use Rattle.rules.proofs.Booleans.{numbered, asked-append}
 
--- ---- the next question, whose answer the code has as `test`
-
-module _ (passed : Bool) (n : ℕ) (qs : List (Bool × ℕ)) {test : Bool} (answer : test ≡ passed) where
-  -- No: the call stops with the question's number.
-  pub no : not test ≡ true → n ≡ asked ((passed, n) ∷ qs)
-  unfolding asked
-  no h = rw (← answer, not-true test h)
-
-  -- Yes: the number is that of the questions after it.
-  pub yes : not test ≡ false → {m : ℕ} → m ≡ asked qs → m ≡ asked ((passed, n) ∷ qs)
-  unfolding asked
-  yes h e = rw (← answer, not-false test h) e
-
--- No question is left: accepted.
-pub accepted : 0 ≡ asked []
-unfolding asked
-accepted = refl
-
--- A question that is passed.
-pub passed : {a test : Bool} → test ≡ a → not test ≡ false → a ≡ true
-passed {test = test} answer h = sym answer ∙ not-false test h
-
--- ---- questions after others, of which the code has the number n
-
+-- The code has the number n of the first ones, ps.
 module _ (ps qs : List (Bool × ℕ)) (h : numbered ps ≡ true) {n : ℕ} (e : n ≡ asked ps) where
   -- The first ones have a no: the number stands.
   pub refused-before : n ≢ 0 → n ≡ asked (ps ++ qs)

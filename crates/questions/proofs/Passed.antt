@@ -1,15 +1,15 @@
 -- What questions that are passed give: the lengths, and a register that is known. Assumes nothing.
 use Prim.Native.Nat.{ℕ, ◌≤◌}
 use mathlib.Core.Path.{◌≡◌}
-use mathlib.Core.Bool.{true, ◌&&◌}
+use mathlib.Core.Bool.{true, false, ◌&&◌, and-false}
 use mathlib.Core.List.{List}
+use mathlib.Core.Logic.{◌≢◌, ◌⊎◌, inl, inr}
 use lib.ListN.{length}
 use lib.Dec.{eqb, leb}
-use borrow.Author.Tests.{eqb-true, leb-true}
+use borrow.Author.Tests.{ne_eqb, eqb-true, leb-true}
 use Rattle.rules.specs.Areas.{Store, memory_length, arrivals_length, outgoing_length, answers_length, areas_full}
 use Rattle.rules.specs.Board.{board8}
 use Rattle.rules.specs.Questions.{settings_sound, stack_sound, slots_sound, full, control_refusal}
-use Rattle.passes.specs.Room.{Room, Lent}
 use Rattle.rules.proofs.Booleans.{and_left, and_right, asked-passed}
 
 -- ---- question 1, passed
@@ -21,17 +21,21 @@ full-lengths r e =
     let m = eqb (length r.memory) memory_length in
     (eqb-true _ _ (and_left s m e), eqb-true _ _ (and_right s m e))
 
-pub all-lent : (s m area out ans : List ℕ) → (full board8 (record { state = s; memory = m }) && areas_full area out ans) ≡ true → Room board8 s → Lent board8 s m area out ans
+-- Not passed: a length is wrong.
+pub not-full : (r : Store) → (length r.state ≢ board8.state_length) ⊎ (length r.memory ≢ memory_length) → full board8 r ≡ false
+unfolding full
+not-full r (inl h) = rw (ne_eqb (length r.state) board8.state_length h)
+not-full r (inr h) = rw (ne_eqb (length r.memory) memory_length h) (and-false (eqb (length r.state) board8.state_length))
+
+-- The areas of a tick besides the store.
+pub areas-lengths : (area out ans : List ℕ) → areas_full area out ans ≡ true → (length area ≡ arrivals_length) × (length out ≡ outgoing_length) × (length ans ≡ answers_length)
 unfolding areas_full
-all-lent s m area out ans e room =
-    let f = full board8 (record { state = s; memory = m }) in
+areas-lengths area out ans e =
     let a = eqb (length area) arrivals_length in
     let o = eqb (length out) outgoing_length in
     let n = eqb (length ans) answers_length in
-    let store = full-lengths _ (and_left f (a && o && n) e) in
-    let areas = and_right f (a && o && n) e in
-    let packets = and_left (a && o) n areas in
-    (store.0, store.1, eqb-true _ _ (and_left a o packets), eqb-true _ _ (and_right a o packets), eqb-true _ _ (and_right (a && o) n areas), room)
+    let packets = and_left (a && o) n e in
+    (eqb-true _ _ (and_left a o packets), eqb-true _ _ (and_right a o packets), eqb-true _ _ (and_right (a && o) n e))
 
 -- ---- an accepted control write
 

@@ -72,8 +72,10 @@ fn all_listed(state: &State, seen: &[bool; Router::SLOTS]) -> bool
     requires { (a : ℕ) → a < 256 → get_or seen.now a false ≡ elem a (stack board8 state.now) }
     ensures { result ≡ all 256 (listed board8 state.now) }
 {
-    (0..Router::SLOTS).all(|i| seen[i]
-        == (layout::get(state, Field::Mask(SlotAddress(i as u8))) == 0))
+    (0..Router::SLOTS).all(|i| {
+        let mask = layout::get(state, Field::Mask(SlotAddress(i as u8)));
+        seen[i] == (mask == 0)
+    })
 }
 
 // The offset of the time is -d to 126: counted from -d on, among the first d + 127 of the clock's 256 readings.
@@ -116,12 +118,10 @@ fn all_pass(state: &State, memory: &Memory, seen: &[bool; Router::SLOTS]) -> boo
     requires { (a : ℕ) → a < 256 → get_or seen.now a false ≡ elem a (stack board8 state.now) }
     ensures { result ≡ (all 256 (listed board8 state.now) && slots_sound board8 (store state.now memory.now)) }
 {
-    (0..Router::SLOT_COUNT).all(|i| slot_passes(
-        state,
-        memory,
-        SlotAddress(i as u8),
-        seen[i as usize],
-    ))
+    (0..Router::SLOT_COUNT).all(|i| {
+        let idle = seen[i as usize];
+        slot_passes(state, memory, SlotAddress(i as u8), idle)
+    })
 }
 
 // Where a slot doesn't pass, the stack's part decides first.

@@ -1,15 +1,17 @@
 -- `questions::control_questions` meets its contract: each return has a yes for every question before it. Assumes nothing.
-use mathlib.Core.Bool.{not}
-use mathlib.Core.Path.{ap, refl}
-use borrow.Author.Tests.{lt-leb, le-leb}
-use Rattle.passes.proofs.Answers.{no, yes, accepted}
+use native.Mathlib.Omega.{arith}
+use Rattle.std.proofs.lemmas.Bool.Decides.{nat_tests}
+use Rattle.rules.specs.Areas.{asked}
 use Rattle.questions.proofs.control_questions.Goals as goal
 
-pub returns-then-not-known : goal.returns-then-not-known
-returns-then-not-known c = no _ _ _ refl (ap not (lt-leb c.args.register 5 c.if-not-known.true))
+pub returns-then-register-gt-LAST_REGISTER : goal.returns-then-register-gt-LAST_REGISTER
+unfolding asked
+returns-then-register-gt-LAST_REGISTER c = grind (arith, nat_tests)
 
 pub returns-then-not-value_fits : goal.returns-then-not-value_fits
-returns-then-not-value_fits c = yes _ _ _ refl (ap not (le-leb c.args.register 5 c.if-not-known.false)) (no _ _ _ c.value_fits.ensures (ap not c.if-not-value_fits.true))
+unfolding asked
+returns-then-not-value_fits c = grind (arith, nat_tests)
 
 pub returns : goal.returns
-returns c = yes _ _ _ refl (ap not (le-leb c.args.register 5 c.if-not-known.false)) (yes _ _ _ c.value_fits.ensures (ap not c.if-not-value_fits.false) accepted)
+unfolding asked
+returns c = grind (arith, nat_tests)

@@ -1,31 +1,32 @@
--- `questions::of_tick` meets its contract: a wrong length stops the call, then a fault does; else the number is left to `tick_questions`, with the lengths
--- and the room from the questions before it. Assumes nothing.
-use mathlib.Core.Bool.{not}
-use mathlib.Core.Path.{ap, refl, sym, ◌∙◌}
-use Rattle.rules.specs.Questions.{fault, tick_refusal}
-use Rattle.rules.proofs.Booleans.{and_left}
-use Rattle.passes.proofs.Answers.{no, yes, passed, refused-before, passed-before}
-use Rattle.questions.proofs.Passed.{full-lengths, all-lent}
+-- `questions::of_tick` meets its contract: a wrong length stops the call, then a fault does; else the masks decide. Assumes nothing.
+use native.Mathlib.Omega.{arith}
+use Rattle.std.proofs.lemmas.Bool.Decides.{nat_tests}
+use mathlib.Core.Path.{◌≡◌, refl, sym, ◌∙◌}
+use mathlib.Core.Bool.{and-true}
+use Rattle.layout.specs.Numbers.{number_of, answer_of}
+use Rattle.rules.specs.Areas.{asked}
+use Rattle.rules.specs.Questions.{tick_refusal}
+use Rattle.passes.proofs.Answers.{refused-before, passed-before}
+use Rattle.sound.proofs.Accepted.{number-some, on_accepted}
+use Rattle.questions.proofs.Passed.{areas-lengths}
 use Rattle.questions.proofs.of_tick.Goals as goal
 
 pub returns-then-not-areas_full-clause-number : goal.returns-then-not-areas_full-clause-number
+unfolding tick_refusal asked
+returns-then-not-areas_full-clause-number c = grind (arith, nat_tests)
+
+pub returns-in_err-of_store-clause-number : goal.returns-in_err-of_store-clause-number
 unfolding tick_refusal
-returns-then-not-areas_full-clause-number c = no _ _ _ c.areas_full.ensures (ap not c.if-not-areas_full.true)
-
-pub fault-refusal-requires : goal.fault-refusal-requires
-fault-refusal-requires c = full-lengths _ (and_left _ _ (passed c.areas_full.ensures (ap not c.if-not-areas_full.false)))
-
-pub returns-then-number-ne0-clause-number : goal.returns-then-number-ne0-clause-number
-unfolding tick_refusal fault
-returns-then-number-ne0-clause-number c = yes _ _ _ c.areas_full.ensures (ap not c.if-not-areas_full.false) (refused-before _ _ refl c.fault-refusal.ensures.number (λ e. c.if-number-ne0.true (c.number.ensures ∙ e)))
+returns-in_err-of_store-clause-number c =
+    let e : answer_of c.from_residual.result ≡ number_of c.in_err-of_store.field-0.0 = grind arith in
+    rw (e, ← c.areas_full.ensures, c.if-not-areas_full.false, and-true) (refused-before _ _ refl c.in_err-of_store.ensures.number (number-some c.in_err-of_store.field-0.0))
 
 pub returns-clause-number : goal.returns-clause-number
-unfolding tick_refusal fault
-returns-clause-number c =
-    let none = sym c.number.ensures ∙ c.if-number-ne0.false in
-    yes _ _ _ c.areas_full.ensures (ap not c.if-not-areas_full.false) (passed-before _ _ refl c.fault-refusal.ensures.number none c.tick_questions.ensures)
+unfolding tick_refusal
+returns-clause-number c = rw (← c.areas_full.ensures, c.if-not-areas_full.false, and-true) (passed-before _ _ refl c.in_ok-of_store.ensures.number refl c.tick_questions.ensures)
 
 pub returns-clause-lengths : goal.returns-clause-lengths
 returns-clause-lengths c =
-    let none = sym c.number.ensures ∙ c.if-number-ne0.false in
-    λ e. all-lent _ _ _ _ _ (passed c.areas_full.ensures (ap not c.if-not-areas_full.false)) (c.fault-refusal.ensures.room none)
+    let whole = c.in_ok-of_store.ensures.whole in
+    let areas = areas-lengths _ _ _ (sym c.areas_full.ensures ∙ c.if-not-areas_full.false) in
+    on_accepted c.tick_questions.result (λ _. (whole.0, whole.1, areas.0, areas.1, areas.2, whole.2))

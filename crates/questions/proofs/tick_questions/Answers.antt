@@ -1,11 +1,13 @@
 -- `questions::tick_questions` meets its contract: a no, or a yes. Assumes nothing.
-use mathlib.Core.Bool.{not}
-use mathlib.Core.Path.{ap}
-use Rattle.passes.proofs.Answers.{no, yes, accepted}
+use native.Mathlib.Omega.{arith}
+use Rattle.std.proofs.lemmas.Bool.Decides.{nat_tests}
+use Rattle.rules.specs.Areas.{asked}
 use Rattle.questions.proofs.tick_questions.Goals as goal
 
-pub returns-then-not-both : goal.returns-then-not-both
-returns-then-not-both c = no _ _ _ c.both.ensures (ap not c.if-not-both.true)
+pub returns-then-waiting-le-ALL_PORTS : goal.returns-then-waiting-le-ALL_PORTS
+unfolding asked
+returns-then-waiting-le-ALL_PORTS c = grind (arith, nat_tests)
 
-pub returns : goal.returns
-returns c = yes _ _ _ c.both.ensures (ap not c.if-not-both.false) accepted
+pub returns-else-arriving-le-ALL_PORTS : goal.returns-else-arriving-le-ALL_PORTS
+unfolding asked
+returns-else-arriving-le-ALL_PORTS c = grind (arith, nat_tests)
