@@ -1,4 +1,3 @@
 mod OneByte
 pub mod FreshState
 pub mod Parts
-pub mod Refusals
