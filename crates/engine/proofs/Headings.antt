@@ -8,6 +8,11 @@ use native.Mathlib.Decide.{dec_lt}
 use native.Mathlib.Omega.{arith}
 use lib.Dec.{leb}
 use lib.IntN.{pos}
+use Rattle.std.specs.Prelude as Slots
+use Rattle.std.specs.Bool.{then_some}
+use Rattle.std.specs.Option.{MatchOption}
+use Rattle.layout.specs.declared.SlotAddress.{SlotAddress}
+use Rattle.table1.specs.Firsts.{slot_of}
 use Rattle.rules.specs.Areas.{has, Grant, nobody, best_effort, on_time, early}
 use Rattle.rules.specs.Board.{Horizon, Mask, board8}
 use Rattle.rules.specs.Tick.{slot_key}
@@ -18,10 +23,16 @@ use Rattle.queues.specs.Engine.{first, heading, table_grant, queue_grant}
 
 -- ---- the first of a queue
 
--- Slot i, whose mask is m, heads it if it waits for the port.
-pub some-heads : (s : List ℕ) (p : ℕ) {o : Option ℕ} {i m : ℕ} {t : Bool} → some i ≡ o → m ≡ board8.get s (Mask, i) → has m p ≡ t → cond t (some i) none ≡ heading board8 s p o
+-- The first o, whose slot is f, and r, which is o if it passes a test that means P.
+pub first-heads : (s : List ℕ) (p : ℕ) (f : Option ℕ) (r o : Slots.Option SlotAddress) {P : SlotAddress → Bool → Type 0} → slot_of o ≡ f → MatchOption o (r ≡ Slots.None) (λ i. (b : Bool) × P i b × (r ≡ then_some b i))
+    → ((i : SlotAddress) (b : Bool) → P i b → b ≡ has (board8.get s (Mask, i.0)) p) → slot_of r ≡ heading board8 s p f
 unfolding heading
-some-heads s p e em et = rw (← e, ← em, et)
+first-heads s p f r Slots.None h m t = rw (← h, m) refl
+first-heads s p f r (Slots.Some i) h (b, k, e) t = rw (← h, e, ← t i b k) (go b)
+  where
+    go : (b : Bool) → slot_of (then_some b i) ≡ cond b (some i.0) none
+    go true = refl
+    go false = refl
 
 -- ---- whom the first ones grant the port
 
@@ -67,11 +78,3 @@ module _ (s q : List ℕ) (waiting p : ℕ) where
   pub grants-nobody : Neither → none ≡ head s q p true → nobody ≡ queue_grant board8 s q waiting p
   unfolding queue_grant table_grant
   grants-nobody n e = rw (← n.0, n.1, ← e)
-
--- The slots granted to the ports below p have these, and so has that of port p.
-pub winners-next : (s : List ℕ) (g : ℕ → Grant ℕ) (p : ℕ) → ((q : ℕ) → q < p → Winner board8 s q (g q)) → Winner board8 s p (g p) → (q : ℕ) → q < p + 1 → Winner board8 s q (g q)
-winners-next s g p below here q h = go (dec_lt q p)
-  where
-    go : Dec (q < p) → Winner board8 s q (g q)
-    go (yes l) = below q l
-    go (no l) = let e : q ≡ p = omega arith in subst (λ (q : ℕ). Winner board8 s q (g q)) (sym e) here

@@ -1,28 +1,20 @@
--- The size of a queue, and whether its first fits: it passes the two tests of it, being a byte. Assumes nothing.
-use Prim.Native.Nat.{ℕ, ◌+◌, ◌<◌}
+-- Whether the first of a queue fits: there is none, or it waits. Assumes nothing.
+use Prim.Native.Nat.{ℕ}
 use mathlib.Core.Path.{◌≡◌}
-use mathlib.Core.Bool.{Bool, ◌&&◌, beq}
+use mathlib.Core.Bool.{Bool}
 use mathlib.Core.List.{List}
-use mathlib.Core.Option.{Option, some}
-use native.Mathlib.Omega.{arith}
-use lib.ListN.{drop}
-use lib.Seq.{get_or-take, get_or-drop}
-use borrow.Author.Tests.{lt-ltb}
-use Rattle.rules.specs.Areas.{byte, has}
-use Rattle.rules.specs.Board.{Mask, board8}
-use Rattle.rules.specs.Tick.{is_early}
+use mathlib.Core.Option as Math
+use Rattle.std.specs.Prelude.{IsTrue, Option, Some, None}
+use Rattle.std.specs.Option.{MatchOption}
+use Rattle.layout.specs.declared.SlotAddress.{SlotAddress}
+use Rattle.rules.specs.Board.{board8}
 use Rattle.queues.specs.Table1.{waits}
-use Rattle.queues.specs.Area.{queue_at, queue, size}
 use Rattle.queues.specs.Engine.{is_first_fitting}
+use Rattle.table1.specs.Firsts.{slot_of}
 
--- A size has two bytes.
-pub size-lt : (q : List ℕ) → ((i : ℕ) → byte q i < 256) → (p : ℕ) (e : Bool) → size (queue q p e) < 65536
-unfolding size queue
-size-lt q h p e =
-    let a = queue_at p e in
-    rw (get_or-take 258 (drop a q) 0 0 (omega arith), get_or-take 258 (drop a q) 1 0 (omega arith), get_or-drop a q 0 0, get_or-drop a q 1 0) (omega (arith, h (a + 0), h (a + 1)))
-
--- Its first, slot i, whose mask is m, waits for the port if w, and is early if a.
-pub some_fits : (s : List ℕ) (p : ℕ) (e : Bool) {o : Option ℕ} {i m : ℕ} {w a : Bool} → some i ≡ o → i < 256 → m ≡ board8.get s (Mask, i) → w ≡ has m p → a ≡ is_early board8 s i → (w && beq a e) ≡ is_first_fitting board8 s p e o
-unfolding is_first_fitting waits
-some_fits s p e {i = i} o l em ew ea = rw (← o, lt-ltb i 256 l, ← em, ← ew, ← ea)
+-- The first o, whose slot is f; r is what a test that means P says of it.
+pub first-fits : (s : List ℕ) (p : ℕ) (e : Bool) (f : Math.Option ℕ) (r : Bool) (o : Option SlotAddress) {P : SlotAddress → Type 0} → slot_of o ≡ f → MatchOption o (IsTrue r) P
+    → ((i : SlotAddress) → P i → r ≡ waits board8 s p e i.0) → r ≡ is_first_fitting board8 s p e f
+unfolding is_first_fitting
+first-fits s p e f r None h m t = rw (← h) m
+first-fits s p e f r (Some i) h m t = rw (← h) (t i m)

@@ -1,14 +1,16 @@
 // Question 21: do the queues belong to the state, as far as their sizes and first ones tell?
 #![tactic(auto)]
 
-ghost use Rattle.std.specs.Prelude.{◌≡◌, ◌<◌, length};
+ghost use Rattle.std.specs.Prelude.{◌≡◌};
 ghost use Rattle.rules.specs.Board.{board8};
-ghost use Rattle.queues.specs.Area.{queues_length, queue, size};
+ghost use Rattle.queues.specs.Table1.{waits};
+ghost use Rattle.queues.specs.Area.{queue, size};
 ghost use Rattle.queues.specs.Engine as Engine;
 ghost use Rattle.fitting.specs.Counts as Counts;
+ghost use Rattle.table1.specs.Sorts.{early_of};
 
-use layout::{Field, Router, SlotAddress};
-use table1::First;
+use layout::{Field, Port, Router, SlotAddress, State};
+use table1::{Queues, Sort};
 
 // For each mask one for each of its ports, twelve bits a port, so that the ports of 256 masks are counted at once.
 const SPREAD: [u64; 32] = [
@@ -56,67 +58,60 @@ fn spread(table: &[u64; 32], mask: u8) -> u64
 }
 
 // How many slots wait for each port, in one number. The table is copied once: the compiler makes a constant array anew wherever it is indexed.
-fn waiting(state: &[u8]) -> u64
-    requires { length state.now ≡ board8.state_length }
+fn waiting(state: &State) -> u64
     ensures { result ≡ Counts.packed_counts (Counts.wait_for state.now 256) }
 {
     let table = SPREAD;
     let mut sum: u64 = 0;
-    let mut i: u32 = 0;
-    while i < Router::SLOT_COUNT {
-        let mask = layout::read(state, Field::Mask(SlotAddress(i as u8)));
-        sum = sum + spread(&table, mask);
-        i += 1;
+    for i in 0..Router::SLOT_COUNT {
+        let mask = layout::get(state, Field::Mask(SlotAddress(i as u8)));
+        sum += spread(&table, mask);
     }
     sum
 }
 
-// The first of a port's queue, if any, waits for the port and is of the sort.
-fn first_fits(state: &[u8], queues: &[u8], port: u8, early: bool) -> bool
-    requires { (length queues.now ≡ queues_length) × (port < 5) }
-    ensures { result ≡ Engine.is_first_fitting board8 state.now port early (Engine.first (queue queues.now port early)) }
+// Slot s waits for the port and is of the sort.
+fn waits(state: &[u8], s: SlotAddress, port: Port, sort: Sort) -> bool
+    ensures { result ≡ waits board8 state.now port.index (early_of sort) s.0 }
 {
-    let first = table1::front(queues, port, early);
-    let First::At(s) = first else {
-        return true;
-    };
-    let served = layout::has_port(layout::get(state, Field::Mask(s)), port);
-    let sort = queue::is_early(state, s) == early;
-    served & sort
+    layout::has_port(layout::get(state, Field::Mask(s)), port) && Sort::of(state, s) == sort
+}
+
+// The first of a port's queue, if any, waits for the port and is of the sort.
+fn first_fits(state: &[u8], queues: &Queues, port: Port, sort: Sort) -> bool
+    ensures { result ≡ Engine.is_first_fitting board8 state.now port.index (early_of sort) (Engine.first (queue queues.now port.index (early_of sort))) }
+{
+    table1::front(queues, port, sort).is_none_or(|s| waits(state, s, port, sort))
 }
 
 // How many slots are in the queue of a port and a sort.
-fn size_of(queues: &[u8], port: u8, early: bool) -> u64
-    requires { (length queues.now ≡ queues_length) × (port < 5) }
-    ensures { result ≡ size (queue queues.now port early) }
+fn size_of(queues: &Queues, port: Port, sort: Sort) -> u16
+    ensures { result ≡ size (queue queues.now port.index (early_of sort)) }
 {
-    let a = table1::place(port, early);
-    let e = a + queue::LENGTH;
-    queue::size(&queues[a..e]) as u64
+    queue::size(table1::part(queues, port, sort))
 }
 
 // The queues of a port have as many slots as wait for it, and right first ones.
-fn port_fits(state: &[u8], queues: &[u8], port: u8, count: u64) -> bool
-    requires { (length queues.now ≡ queues_length) × (port < 5) × (count ≡ Counts.wait_for state.now 256 port) }
-    ensures { result ≡ Engine.port_fits board8 state.now queues.now port }
+fn port_fits(state: &[u8], queues: &Queues, port: Port, count: u64) -> bool
+    requires { count ≡ Counts.wait_for state.now 256 port.index }
+    ensures { result ≡ Engine.port_fits board8 state.now queues.now port.index }
 {
-    let n = size_of(queues, port, false) + size_of(queues, port, true);
-    let on_time = first_fits(state, queues, port, false);
-    let early = first_fits(state, queues, port, true);
-    (n == count) & (on_time & early)
+    let on_time = u64::from(size_of(queues, port, Sort::OnTime));
+    let early = u64::from(size_of(queues, port, Sort::Early));
+    on_time + early == count
+        && first_fits(state, queues, port, Sort::OnTime)
+        && first_fits(state, queues, port, Sort::Early)
 }
 
-pub fn fitting(state: &[u8], queues: &[u8]) -> bool
-    requires { (length state.now ≡ board8.state_length) × (length queues.now ≡ queues_length) }
+pub fn fitting(state: &State, queues: &Queues) -> bool
     ensures { result ≡ Engine.fitting board8 state.now queues.now }
 {
     let mut left = waiting(state);
-    let mut fits = true;
-    let mut p: u8 = 0;
-    while p < table1::PORTS {
-        fits = fits & port_fits(state, queues, p, left % 4096);
-        left = left / 4096;
-        p += 1;
+    for index in 0..Port::COUNT {
+        if !port_fits(state, queues, Port { index }, left % 4096) {
+            return false;
+        }
+        left /= 4096;
     }
-    fits
+    true
 }

@@ -1,5 +1,5 @@
 // One queue of Table 1: how many slots are in it, and its entries. The first of n is entry n - 1.
-#![tactic(auto)]
+#![tactic(auto, unfolding(queues::specs::Area::size, queues::specs::Area::entry, queues::specs::Area::resized, queues::specs::Area::put_entry))]
 
 ghost use Rattle.std.specs.Prelude.{◌≡◌, ◌+◌, ◌-◌, ◌<◌, ◌≤◌, length};
 ghost use Rattle.rules.specs.Board.{clock, board8};
@@ -17,7 +17,7 @@ const ENTRIES: usize = 2;
 pub fn size(queue: &[u8]) -> u16
     ensures { result ≡ Area.size queue.now }
 {
-    layout::wide(layout::byte(queue, 0)) * 256 + layout::wide(layout::byte(queue, 1))
+    layout::pair(queue, 0)
 }
 
 pub fn entry(queue: &[u8], j: u16) -> SlotAddress
@@ -29,8 +29,7 @@ pub fn entry(queue: &[u8], j: u16) -> SlotAddress
 pub fn resize(queue: &mut [u8], n: u16)
     ensures { queue.new ≡ Area.resized n queue.old }
 {
-    layout::put_byte(queue, 0, (n / 256) as u8);
-    layout::put_byte(queue, 1, (n % 256) as u8);
+    layout::put_pair(queue, 0, n);
 }
 
 // An entry that the queue has, read and stored without a test of its length.
@@ -63,16 +62,14 @@ fn make_room(queue: &mut [u8], state: &[u8], t: ClockReading, s: SlotAddress, n:
     ensures { (result ≤ n) × (Area.put_entry queue.new result s.0 ≡ Area.placed (before board8 state.now) s.0 n queue.old) }
 {
     let rank = choose::rank(state, t, s);
-    let mut j = n;
-    while 0 < j {
-        let other = slot(queue, j - 1);
+    for j in (0..n).rev() {
+        let other = slot(queue, j);
         if rank <= choose::rank(state, t, other) {
-            return j;
+            return j + 1;
         }
-        put_slot(queue, j, other);
-        j -= 1;
+        put_slot(queue, j + 1, other);
     }
-    j
+    0
 }
 
 // Slot s comes in, at its place in the comparator's order; a full queue stays as it is.
@@ -94,12 +91,7 @@ pub fn insert(queue: &mut [u8], state: &[u8], s: SlotAddress)
 pub fn shorten(queue: &mut [u8])
     ensures { queue.new ≡ Area.resized (Area.size queue.old - 1) queue.old }
 {
-    let n = size(queue);
-    if n == 0 {
-        resize(queue, 0);
-        return;
-    }
-    resize(queue, n - 1);
+    resize(queue, size(queue).saturating_sub(1));
 }
 
 // How many are left once the first ones that are due have left.
@@ -107,13 +99,11 @@ pub fn undue(queue: &[u8], state: &[u8]) -> u16
     ensures { result ≡ Area.rest (is_due board8 state.now) queue.now (Area.size queue.now) }
 {
     let t = layout::get(state, Field::Clock);
-    let mut n = size(queue);
-    while 0 < n {
-        let s = entry(queue, n - 1);
+    for j in (0..size(queue)).rev() {
+        let s = entry(queue, j);
         if layout::get(state, Field::Deadline(s)) != t {
-            return n;
+            return j + 1;
         }
-        n -= 1;
     }
-    n
+    0
 }

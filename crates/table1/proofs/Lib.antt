@@ -1,2 +1,2 @@
-pub mod QueueParts
+mod QueueParts
 mod Turns

@@ -1,4 +1,4 @@
--- `fitting::waiting` meets its contract. The loop's invariant: `sum` has the counts of the slots below `i`, and `table` the numbers of all masks, as it computes. The measure is how many slots are left. Assumes nothing.
+-- `fitting::waiting` meets its contract. The loop's invariant: `sum` has the counts of the slots below `i`. The table has the numbers of all masks, as it computes. Assumes nothing.
 use Prim.Native.Nat.{◌+◌}
 use mathlib.Core.Path.{◌≡◌, refl}
 use native.Mathlib.Omega.{arith}
@@ -6,19 +6,21 @@ use Rattle.rules.specs.Order.{count, counted}
 use Rattle.rules.specs.Areas.{has}
 use Rattle.fitting.specs.Counts.{packed_counts, spread, spreads, wait_for}
 use Rattle.fitting.proofs.PackedCounts.{packed-next, packed_lt}
-use borrow.Author.Rules.{rules}
 use Rattle.fitting.proofs.waiting.Goals as goal
 
 pub loop-i-init : goal.loop-i-init
-unfolding packed_counts count spreads spread counted has
-loop-i-init c = (search rules, refl, refl)
+unfolding packed_counts count
+loop-i-init c = refl
+
+pub spread-sum-requires : goal.spread-sum-requires
+unfolding packed_counts spreads spread counted has
+spread-sum-requires c = refl
 
 pub overflow_add-sum : goal.overflow_add-sum
 overflow_add-sum c =
     let e : c.loop-i.sum + c.spread-sum.result ≡ packed_counts (wait_for c.args.state.now (c.loop-i.i + 1)) =
-    packed-next _ c.loop-i.i _ _ c.loop-i.invariant.1 (rw (← c.read-mask.ensures) c.spread-sum.ensures) in
+    packed-next _ c.loop-i.i _ _ c.loop-i.invariant (rw (← c.get-mask.ensures) c.spread-sum.ensures) in
     omega (arith, e, packed_lt c.args.state.now (c.loop-i.i + 1) (omega arith))
 
 pub loop-i-preserved : goal.loop-i-preserved
-loop-i-preserved c =
-    (omega arith, packed-next _ c.loop-i.i _ _ c.loop-i.invariant.1 (rw (← c.read-mask.ensures) c.spread-sum.ensures), c.loop-i.invariant.2)
+loop-i-preserved c = packed-next _ c.loop-i.i _ _ c.loop-i.invariant (rw (← c.get-mask.ensures) c.spread-sum.ensures)

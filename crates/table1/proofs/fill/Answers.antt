@@ -1,13 +1,14 @@
--- `table1::fill` meets its contract. The loop's invariant: the slots below `i` are in the queues. The measure is how many are left. Assumes nothing.
+-- `table1::fill` meets its contract. The loop's invariant: the slots below `i` are in the queues. Assumes nothing.
+use native.Mathlib.Numerals.{add-one}
+use mathlib.Core.Path.{refl, ap, ◌∙◌}
 use Rattle.rules.specs.Board.{board8}
-use Rattle.table1.proofs.Turns.{filled_none, filled_next}
-use borrow.Author.Rules.{rules}
+use Rattle.queues.specs.Engine.{filled, entered}
 use Rattle.table1.proofs.fill.Goals as goal
 
 pub loop-i-init : goal.loop-i-init
-loop-i-init c =
-    (search rules, search rules, filled_none board8 _ c.args.queues.now _ c.requires c.clear.ensures)
+unfolding filled
+loop-i-init c = refl
 
 pub loop-i-preserved : goal.loop-i-preserved
-loop-i-preserved c =
-    (search rules, search rules, filled_next board8 _ c.loop-i.i _ _ c.loop-i.invariant.2 c.enter.ensures)
+unfolding filled
+loop-i-preserved c = rw (add-one c.loop-i.i) (c.enter.ensures ∙ ap (entered board8 c.args.state.now c.loop-i.i) c.loop-i.invariant)

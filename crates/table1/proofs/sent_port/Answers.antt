@@ -21,7 +21,7 @@ not-sent (OnTime s) h p q = absurd (miss (0 ∷ 1 ∷ []) 2 tt h)
 not-sent (Early s) h p q = absurd (miss (0 ∷ 1 ∷ []) 3 tt h)
 
 pub returns-in-Nobody : goal.returns-in-Nobody
-returns-in-Nobody c = not-sent c.args.g (search rules) c.args.port _
+returns-in-Nobody c = not-sent c.args.g (search rules) c.args.port.index _
 
 pub returns-in-OnTime : goal.returns-in-OnTime
 unfolding sent_from
