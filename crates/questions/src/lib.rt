@@ -9,6 +9,7 @@ ghost use Rattle.passes.specs.Room.{Room, Lent};
 ghost use Rattle.passes.specs.Stores.{store};
 ghost use Rattle.layout.specs.Numbers.{answer_of};
 
+use control::Register;
 use layout::{Refusal, Router};
 
 // 1: do the areas of a tick besides state and memory have their lengths?
@@ -24,10 +25,7 @@ fn areas_full(arrivals: &[u8], outgoing: &[u8], answers: &[u8]) -> bool
 fn control_questions(register: u8, value: u8) -> Result<(), Refusal>
     ensures { answer_of result ≡ asked (control_questions 1 register value) }
 {
-    if Router::LAST_REGISTER < register {
-        return Err(Refusal::Register);
-    }
-    if !control::value_fits(register, value) {
+    if !Register::try_from(register)?.fits(value) {
         return Err(Refusal::Value);
     }
     Ok(())

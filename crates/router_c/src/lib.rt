@@ -1,4 +1,5 @@
 // librouter.a: the router's entries for C, each a call of the library's function of that name.
+// Signatures and clauses are the library's once more, since C calls only what its own crate exports: the C interface.
 #![tactic(auto)]
 
 ghost use Rattle.std.specs.Prelude.{◌≡◌, take, drop};
@@ -15,7 +16,7 @@ pub extern "C" fn router_fresh(state: &mut [u8], memory: &mut [u8], clock: u8) -
         (record { reply = number_reply result; after = record { state = state.new; memory = memory.new } })
         (make_fresh board8 (record { state = state.old; memory = memory.old }) clock) }
 {
-    router::router_fresh(state, memory, clock)
+    layout::number(router::router_fresh(state, memory, clock))
 }
 
 // Writes a value to a control register.
@@ -25,7 +26,7 @@ pub extern "C" fn router_control(state: &mut [u8], memory: &[u8], register: u8, 
         (record { reply = number_reply result; after = record { state = state.new; memory = memory.now } })
         (control_write board8 (record { state = state.old; memory = memory.now }) register value) }
 {
-    router::router_control(state, memory, register, value)
+    layout::number(router::router_control(state, memory, register, value))
 }
 
 // One tick of the clock.
@@ -43,9 +44,9 @@ pub extern "C" fn router_tick(
         (record { reply = record { number = result; outgoing = outgoing.new; answers = answers.new }; after = record { state = state.new; memory = memory.new } })
         (tick board8 (record { state = state.old; memory = memory.old }) arriving waiting arrivals.now outgoing.old answers.old) }
 {
-    router::router_tick(
+    layout::number(router::router_tick(
         state, memory, arrivals, outgoing, answers, arriving, waiting,
-    )
+    ))
 }
 
 // Where the display part of a port starts in the outgoing area; the area's length where it is empty.

@@ -1,4 +1,5 @@
 // libservice.a: the service bench's entries for C, each a call of the library's function of that name.
+// Signatures and clauses are the library's once more, since C calls only what its own crate exports: the C interface.
 #![tactic(auto)]
 
 ghost use Rattle.std.specs.Prelude.{◌≡◌};
@@ -14,7 +15,7 @@ ghost use Rattle.queues.specs.Engine.{Bench, fill, control, tick};
 pub extern "C" fn router_fault(state: &[u8], memory: &[u8]) -> u16
     ensures { result ≡ service_fault board8 (store state.now memory.now) }
 {
-    service::router_fault(state, memory)
+    service::router_fault(state, memory).map_or(0, u16::from)
 }
 
 // Fills the queues from a sound state.
@@ -24,7 +25,7 @@ pub extern "C" fn router_queues_fill(state: &[u8], memory: &[u8], queues: &mut [
         (record { reply = number_reply result; after = record { store = store state.now memory.now; queues = queues.new } })
         (fill board8 (record { store = store state.now memory.now; queues = queues.old })) }
 {
-    service::router_queues_fill(state, memory, queues)
+    layout::number(service::router_queues_fill(state, memory, queues))
 }
 
 // Writes a value to a control register.
@@ -40,7 +41,7 @@ pub extern "C" fn router_queues_control(
         (record { reply = number_reply result; after = record { store = store state.new memory.now; queues = queues.now } })
         (control board8 (record { store = store state.old memory.now; queues = queues.now }) register value) }
 {
-    service::router_queues_control(state, memory, queues, register, value)
+    layout::number(service::router_queues_control(state, memory, queues, register, value))
 }
 
 // One tick of the clock.
@@ -59,9 +60,9 @@ pub extern "C" fn router_queues_tick(
         (record { reply = record { number = result; outgoing = outgoing.new; answers = answers.new }; after = record { store = store state.new memory.new; queues = queues.new } })
         (tick board8 (record { store = store state.old memory.old; queues = queues.old }) arriving waiting arrivals.now outgoing.old answers.old) }
 {
-    service::router_queues_tick(
+    layout::number(service::router_queues_tick(
         state, memory, queues, arrivals, outgoing, answers, arriving, waiting,
-    )
+    ))
 }
 
 // The version of this archive.

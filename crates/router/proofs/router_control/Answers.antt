@@ -1,19 +1,21 @@
--- `router::router_control` meets its contract: a number other than 0 alters nothing, and with 0 the register is known and the write is `written`.
--- Assumes nothing.
-use native.Mathlib.Omega.{arith}
-use mathlib.Core.Path.{◌≡◌, sym, ◌∙◌}
+-- `router::router_control` meets its contract: a refusal alters nothing, and past the questions the register is known and the write is `written`. Assumes nothing.
+use mathlib.Core.Path.{◌≡◌, refl, sym, ap, ◌∙◌}
+use Rattle.std.proofs.lemmas.Result.{err_from_is_err_and}
+use Rattle.layout.specs.Numbers.{answer_of}
+use Rattle.layout.proofs.Refusals.{refuses}
+use Rattle.control.proofs.Named.{named, number-named}
 use Rattle.questions.proofs.Passed.{known}
 use Rattle.router.proofs.Outcomes.{control-refused, control-accepted}
 use Rattle.router.proofs.router_control.Goals as goal
 
-pub returns-then-number-ne0 : goal.returns-then-number-ne0
-returns-then-number-ne0 c = control-refused _ _ _ _ (c.number-number.ensures ∙ c.of_control.ensures) (λ e. omega arith)
+pub returns-in_err-of_control : goal.returns-in_err-of_control
+returns-in_err-of_control c =
+    let p = err_from_is_err_and c.from_residual.result c.from_residual.ensures.1 in
+    rw (p.1, p.2) (control-refused _ _ _ _ (sym (ap answer_of c.in_err-of_control.was) ∙ c.of_control.ensures) (refuses _))
 
-pub write_register-requires : goal.write_register-requires
-write_register-requires c =
-    known _ _ c.args.value (sym (c.number-number.ensures ∙ c.of_control.ensures) ∙ c.if-number-ne0.false)
+pub unwrap-requires : goal.unwrap-requires
+unwrap-requires c = named _ _ c.try_from.ensures (known _ _ c.args.value (sym c.of_control.ensures ∙ ap answer_of c.in_ok-of_control.was))
 
 pub returns : goal.returns
 returns c =
-    let zero : c.number-number.result ≡ 0 = omega arith in
-    control-accepted _ _ _ _ (c.number-number.ensures ∙ c.of_control.ensures) zero _ c.write_register.ensures
+    control-accepted _ _ _ _ (sym (ap answer_of c.in_ok-of_control.was) ∙ c.of_control.ensures) refl _ (c.write_register.ensures ∙ rw (number-named _ _ _ c.try_from.ensures c.unwrap.ensures))

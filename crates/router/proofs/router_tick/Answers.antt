@@ -1,14 +1,16 @@
--- `router::router_tick` meets its contract: a number other than 0 alters nothing, and with 0 the areas are whole, the stack has room, and the work is `ticked`.
--- Assumes nothing.
-use native.Mathlib.Omega.{arith}
-use mathlib.Core.Path.{◌≡◌, ◌∙◌}
+-- `router::router_tick` meets its contract: a refusal alters nothing, and past the questions the areas have their lengths, the stack has room, and the work is `ticked`. Assumes nothing.
+use mathlib.Core.Path.{◌≡◌, refl, sym, ap, ◌∙◌}
+use Rattle.std.proofs.lemmas.Result.{err_from_is_err_and}
+use Rattle.layout.specs.Numbers.{answer_of}
+use Rattle.layout.proofs.Refusals.{refuses}
 use Rattle.router.proofs.Outcomes.{tick-refused, tick-accepted}
 use Rattle.router.proofs.router_tick.Goals as goal
 
-pub returns-then-n-ne0 : goal.returns-then-n-ne0
-returns-then-n-ne0 c = tick-refused _ _ _ _ _ _ _ (c.number-n.ensures ∙ c.of_tick.ensures.number) (λ e. omega arith)
+pub returns-in_err-of_tick : goal.returns-in_err-of_tick
+returns-in_err-of_tick c =
+    let p = err_from_is_err_and c.from_residual.result c.from_residual.ensures.1 in
+    rw (p.1, p.2) (tick-refused _ _ _ _ _ _ _ (sym (ap answer_of c.in_err-of_tick.was) ∙ c.of_tick.ensures.number) (refuses _))
 
 pub returns : goal.returns
 returns c =
-    let zero : c.number-n.result ≡ 0 = omega arith in
-    tick-accepted _ _ _ _ _ _ _ (c.number-n.ensures ∙ c.of_tick.ensures.number) zero _ _ _ c.work.ensures
+    tick-accepted _ _ _ _ _ _ _ (sym (ap answer_of c.in_ok-of_tick.was) ∙ c.of_tick.ensures.number) refl _ _ _ c.work.ensures
