@@ -12,7 +12,7 @@ ghost use Rattle.passes.specs.Arrivals.{in_time, met};
 ghost use Rattle.arrive.specs.Numbers.{number_of, refusal_of, number};
 
 use layout::{
-    ClockReading, ConnectionId, Field, Memory, Packet, Packets, Router, SlotAddress, State,
+    ClockReading, ConnectionId, Field, Memory, Packet, Packets, Port, Router, SlotAddress, State,
 };
 
 // The question that refuses an arrival: 6, 7 or 8.
@@ -123,13 +123,12 @@ fn take(state: &mut State, memory: &mut Memory, packet: &Packet) -> Result<(), R
 }
 
 // One port's arrival.
-fn admit(state: &mut State, memory: &mut Memory, packet: &Packet, arriving: u8, port: u8) -> Arrival
-    requires { port < 5 }
-    ensures number { number result ≡ arrival board8 state.old arriving port packet.now }
-    ensures after { store state.new memory.new ≡ admitted board8 (store state.old memory.old) arriving port packet.now }
+fn admit(state: &mut State, memory: &mut Memory, packet: &Packet, arriving: u8, port: Port) -> Arrival
+    ensures number { number result ≡ arrival board8 state.old arriving port.index packet.now }
+    ensures after { store state.new memory.new ≡ admitted board8 (store state.old memory.old) arriving port.index packet.now }
     ensures room { Room board8 state.old → Room board8 state.new }
 {
-    if layout::has_port(arriving, layout::Port { index: port }) {
+    if layout::has_port(arriving, port) {
         Some(take(state, memory, packet))
     } else {
         None
@@ -151,7 +150,8 @@ pub fn arrive(
     for p in 0..Router::PORTS {
         let a = Router::PACKET * p;
         let packet = arrivals[a..a + Router::PACKET].as_array().unwrap();
-        answers[p] = number(admit(state, memory, packet, arriving, p as u8));
+        let port = Port { index: p as u8 };
+        answers[p] = number(admit(state, memory, packet, arriving, port));
     }
     answers
 }

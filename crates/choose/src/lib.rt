@@ -1,7 +1,7 @@
 // Step 2 of a tick: one pass over the slots finds the winners of the five ports.
 #![tactic(auto)]
 
-ghost use Rattle.std.specs.Prelude.{◌≡◌, cond, suc, ◌+◌, ◌*◌, ◌<◌, length};
+ghost use Rattle.std.specs.Prelude.{◌≡◌, cond, suc, ◌+◌, ◌*◌, ◌<◌, length, slice_index};
 ghost use Rattle.rules.specs.Areas.{nobody, best_effort, grant_code};
 ghost use Rattle.rules.specs.Board.{clock, board8};
 ghost use Rattle.rules.specs.Tick.{grant};
@@ -12,7 +12,7 @@ ghost use Rattle.choose.specs.Grants.{grant_of, Granted};
 ghost use Rattle.choose.specs.Lines.{RankOf, Offered};
 
 use clock::Key;
-use layout::{ClockReading, Field, Router, SlotAddress};
+use layout::{ClockReading, Field, Port, Router, SlotAddress};
 
 // Where the ranks of early slots begin, and the rank of no slot.
 const EARLY: u32 = 16777216;
@@ -117,19 +117,19 @@ fn unsent(waits: bool) -> Grant
 }
 
 // Who has a port, by its least rank.
-fn choose(state: &[u8], waiting: u8, port: u8, best: u32) -> Grant
-    requires { (port < 5) × (best ≡ Ranks.best board8 state.now 256 port) }
-    ensures { grant_of result ≡ grant board8 state.now waiting port }
+fn choose(state: &[u8], waiting: u8, port: Port, best: u32) -> Grant
+    requires { best ≡ Ranks.best board8 state.now 256 port.index }
+    ensures { grant_of result ≡ grant board8 state.now waiting port.index }
 {
     let slot = SlotAddress((best % 256) as u8);
     if best < EARLY {
         return Grant::OnTime(slot);
     }
-    let waits = layout::has_port(waiting, layout::Port { index: port });
+    let waits = layout::has_port(waiting, port);
     if NONE <= best {
         return unsent(waits);
     }
-    let horizon = layout::get(state, Field::Horizon(port));
+    let horizon = layout::get(state, Field::Horizon(port.index));
     if best < bound(waits, EARLY + (u32::from(horizon) + 1) * 65536) {
         return Grant::Early(slot);
     }
@@ -142,5 +142,9 @@ pub fn grants(state: &[u8], end: usize, waiting: u8) -> [Grant; Router::PORTS]
     ensures { Granted (grant board8 state.now waiting) 5 result }
 {
     let bests = scan(state, end);
-    std::array::from_fn(|p| choose(state, waiting, p as u8, bests[p]))
+    std::array::from_fn(
+        |p|
+            requires { (p < 5) × (slice_index bests p ≡ Ranks.best board8 state.now 256 p) }
+        { choose(state, waiting, Port { index: p as u8 }, bests[p]) },
+    )
 }

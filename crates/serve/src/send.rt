@@ -7,7 +7,7 @@ ghost use Rattle.passes.specs.Sends.{joined, sends};
 ghost use Rattle.choose.specs.Grants.{grant_of, grant_at};
 
 use choose::Grant;
-use layout::{Memory, Packet, Packets, Router, SlotAddress};
+use layout::{Memory, Packet, Packets, Port, Router, SlotAddress};
 
 // A slot's packet.
 fn packet(memory: &Memory, s: SlotAddress) -> &Packet
@@ -18,11 +18,11 @@ fn packet(memory: &Memory, s: SlotAddress) -> &Packet
 }
 
 // The port joins the ports that send the slot.
-fn join(sent: &mut [u8; Router::SLOTS], port: u8, s: SlotAddress)
-    requires { (port < 5) × (get_or sent.old s.0 0 < 2 ^ port) }
-    ensures { sent.new ≡ set sent.old s.0 (get_or sent.old s.0 0 + 2 ^ port) }
+fn join(sent: &mut [u8; Router::SLOTS], port: Port, s: SlotAddress)
+    requires { get_or sent.old s.0 0 < 2 ^ port.index }
+    ensures { sent.new ≡ set sent.old s.0 (get_or sent.old s.0 0 + 2 ^ port.index) }
 {
-    sent[s.0 as usize] += 1 << port;
+    sent[s.0 as usize] += 1 << port.index;
 }
 
 // Step 3 for one port that has this grant: it sends its slot's packet, or 20 bytes of zero.
@@ -30,14 +30,14 @@ fn serve_port(
     memory: &Memory,
     outgoing: &mut Packets,
     sent: &mut [u8; Router::SLOTS],
-    port: u8,
+    port: Port,
     g: Grant,
 )
-    requires { (port < 5) × ((i : ℕ) → get_or sent.old i 0 < 2 ^ port) }
-    ensures packet { outgoing.new ≡ sets outgoing.old (Areas.packet_length * port) (grant_bytes memory.now (grant_of g)) }
-    ensures after { sent.new ≡ joined port (grant_of g) sent.old }
+    requires { (i : ℕ) → get_or sent.old i 0 < 2 ^ port.index }
+    ensures packet { outgoing.new ≡ sets outgoing.old (Areas.packet_length * port.index) (grant_bytes memory.now (grant_of g)) }
+    ensures after { sent.new ≡ joined port.index (grant_of g) sent.old }
 {
-    let at = Router::PACKET * (port as usize);
+    let at = Router::PACKET * (port.index as usize);
     match g {
         Grant::Nobody | Grant::BestEffort => layout::copy_in(&[0u8; Router::PACKET], outgoing, at),
         Grant::OnTime(s) | Grant::Early(s) => {
@@ -61,7 +61,8 @@ pub fn serve(
     ensures masks { sent.new ≡ sends (grant_at grants) 5 }
 {
     for p in 0..Router::PORTS {
-        serve_port(memory, outgoing, sent, p as u8, grants[p]);
+        let port = Port { index: p as u8 };
+        serve_port(memory, outgoing, sent, port, grants[p]);
     }
     grants.map(u8::from)
 }

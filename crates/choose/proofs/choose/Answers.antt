@@ -8,19 +8,19 @@ use Rattle.choose.proofs.choose.Goals as goal
 
 pub returns-then-best-lt-EARLY : goal.returns-then-best-lt-EARLY
 unfolding bits
-returns-then-best-lt-EARLY c = grants-on-time board8 _ _ _ _ c.requires.1 (omega arith)
+returns-then-best-lt-EARLY c = grants-on-time board8 _ _ _ _ c.requires (omega arith)
 
 pub returns-then-best-ge-NONE : goal.returns-then-best-ge-NONE
 unfolding bits
 returns-then-best-ge-NONE c =
-    c.unsent.ensures ∙ grants-none board8 _ _ _ _ c.requires.1 _ c.has_port-waits.ensures (omega arith)
+    c.unsent.ensures ∙ grants-none board8 _ _ _ _ c.requires _ c.has_port-waits.ensures (omega arith)
 
 pub returns-then-best-bound : goal.returns-then-best-bound
 unfolding bits
 returns-then-best-bound c =
-    grants-early board8 _ _ _ _ c.requires.1 _ c.has_port-waits.ensures _ (c.from.ensures ∙ c.get-horizon.ensures) _ c.bound.ensures (omega arith) (omega arith) (omega arith)
+    grants-early board8 _ _ _ _ c.requires _ c.has_port-waits.ensures _ (c.from.ensures ∙ c.get-horizon.ensures) _ c.bound.ensures (omega arith) (omega arith) (omega arith)
 
 pub returns : goal.returns
 unfolding bits
 returns c =
-    c.unsent-2.ensures ∙ grants-unsent board8 _ _ _ _ c.requires.1 _ c.has_port-waits.ensures _ (c.from.ensures ∙ c.get-horizon.ensures) _ c.bound.ensures (omega arith) (omega arith) (omega arith)
+    c.unsent-2.ensures ∙ grants-unsent board8 _ _ _ _ c.requires _ c.has_port-waits.ensures _ (c.from.ensures ∙ c.get-horizon.ensures) _ c.bound.ensures (omega arith) (omega arith) (omega arith)

@@ -19,7 +19,7 @@ unfolding sends ports_below
 loop-p-init c = record { packets = refl; masks = c.requires.unsent }
 
 pub serve_port-requires : goal.serve_port-requires
-serve_port-requires c = (search rules, λ i. rw c.loop-p.invariant.masks (sends-lt (grant_at c.args.grants) c.loop-p.p i))
+serve_port-requires c = λ i. rw c.loop-p.invariant.masks (sends-lt (grant_at c.args.grants) c.loop-p.p i)
 
 pub loop-p-preserved : goal.loop-p-preserved
 unfolding sends

@@ -22,17 +22,17 @@ unfolding grant_bytes joined
 sends-slot m l p g s h = ⊎_elim (λ e. rw e (refl, refl)) (λ e. rw e (refl, refl)) h
 
 pub returns-in-Nobody-clause-after : goal.returns-in-Nobody-clause-after
-returns-in-Nobody-clause-after c = let n = sends-nothing c.args.memory.now c.args.sent.now c.args.port c.args.g c.in-Nobody.is in
+returns-in-Nobody-clause-after c = let n = sends-nothing c.args.memory.now c.args.sent.now c.args.port.index c.args.g c.in-Nobody.is in
     sym n.1
 
 pub returns-in-Nobody-clause-packet : goal.returns-in-Nobody-clause-packet
-returns-in-Nobody-clause-packet c = let n = sends-nothing c.args.memory.now c.args.sent.now c.args.port c.args.g c.in-Nobody.is in
+returns-in-Nobody-clause-packet c = let n = sends-nothing c.args.memory.now c.args.sent.now c.args.port.index c.args.g c.in-Nobody.is in
     rw n.0 c.copy_in.ensures
 
 pub returns-in-OnTime-clause-after : goal.returns-in-OnTime-clause-after
-returns-in-OnTime-clause-after c = let n = sends-slot c.args.memory.now c.args.sent.now c.args.port c.args.g c.in-OnTime.s c.in-OnTime.is in
+returns-in-OnTime-clause-after c = let n = sends-slot c.args.memory.now c.args.sent.now c.args.port.index c.args.g c.in-OnTime.s c.in-OnTime.is in
     rw n.1 c.join.ensures
 
 pub returns-in-OnTime-clause-packet : goal.returns-in-OnTime-clause-packet
-returns-in-OnTime-clause-packet c = let n = sends-slot c.args.memory.now c.args.sent.now c.args.port c.args.g c.in-OnTime.s c.in-OnTime.is in
+returns-in-OnTime-clause-packet c = let n = sends-slot c.args.memory.now c.args.sent.now c.args.port.index c.args.g c.in-OnTime.s c.in-OnTime.is in
     rw (n.0, ← c.packet.ensures) c.copy_in-in-OnTime.ensures
