@@ -13,17 +13,13 @@ ghost use Rattle.fresh.specs.Slots.{emptied};
 use layout::{ClockReading, Field, Refusal, Router, Slot, SlotAddress};
 
 // Copies the slots of a fresh router, each to its place from its time on.
-fn put_slots(state: &mut [u8], slots: [Slot; Router::SLOTS])
-    requires { (length state.old ≡ board8.state_length) × (slots ≡ replicate 256 empty) }
+fn put_slots(state: &mut [u8], slots: &[Slot; Router::SLOTS])
+    requires { (length state.old ≡ board8.state_length) × (slots.now ≡ replicate 256 empty) }
     ensures { state.new ≡ emptied 256 state.old }
 {
-    let mut i = 0;
-    while i < Router::SLOTS {
-        let slot = slots[i];
-        let bytes = slot.0;
+    for (i, slot) in slots.iter().enumerate() {
         let at = layout::place(Field::Time(SlotAddress(i as u8)));
-        layout::copy_in(&bytes, state, at);
-        i += 1;
+        layout::copy_in(&slot.0, state, at);
     }
 }
 
@@ -33,17 +29,12 @@ pub fn make_fresh(state: &mut [u8], memory: &mut [u8], clock: u8) -> Result<(), 
         (record { reply = number_reply (answer_of result); after = store state.new memory.new })
         (make_fresh board8 (store state.old memory.old) clock) }
 {
-    if state.len() != Router::STATE {
-        return Err(Refusal::Lengths);
-    }
-    if memory.len() != Router::MEMORY {
+    if state.len() != Router::STATE || memory.len() != Router::MEMORY {
         return Err(Refusal::Lengths);
     }
     let router = Router::fresh(ClockReading(clock));
-    let bytes = router.bytes;
-    let slots = router.slots;
-    layout::copy_in(&bytes, state, 0);
-    put_slots(state, slots);
-    layout::clear(memory);
+    state.copy_from_slice(&router.bytes);
+    put_slots(state, &router.slots);
+    memory.fill(0);
     Ok(())
 }

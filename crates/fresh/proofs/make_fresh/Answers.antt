@@ -1,19 +1,25 @@
--- `fresh::make_fresh` meets its contract. Each refusal alters nothing; past them the bytes make the fresh state, whose slots are empty already, and the memory
--- is cleared. Assumes nothing.
-use mathlib.Core.Path.{◌≡◌, refl, sym, ◌∙◌}
+-- `fresh::make_fresh` meets its contract. A refusal alters nothing; past it the bytes make the fresh state, whose slots are empty already, and the memory is
+-- cleared. Assumes nothing.
+use mathlib.Core.Path.{◌≡◌, ◌∙◌}
+use mathlib.Core.Bool.{true, false}
+use native.Mathlib.Omega.{arith}
+use borrow.Author.Rules.{rules}
+use Rattle.std.proofs.lemmas.Bool.Decides.{nat_tests}
 use Rattle.rules.specs.Board.{board8}
-use Rattle.rules.proofs.AreaLaws.{sets-all}
-use Rattle.rules.proofs.Board8Laws.{lawful8}
-use Rattle.passes.proofs.MakeFresh.{refused-state, refused-memory, accepted}
+use Rattle.rules.specs.Questions.{full}
+use Rattle.passes.specs.Stores.{store}
+use Rattle.passes.proofs.MakeFresh.{refused, accepted}
 use Rattle.fresh.proofs.EmptySlots.{emptied-fresh}
 use Rattle.fresh.proofs.make_fresh.Goals as goal
 
 pub returns-then-state-ne-STATE : goal.returns-then-state-ne-STATE
-returns-then-state-ne-STATE c = refused-state board8 _ _ _ c.if-state-ne-STATE.true refl
-
-pub returns-then-memory-ne-MEMORY : goal.returns-then-memory-ne-MEMORY
-returns-then-memory-ne-MEMORY c = refused-memory board8 _ _ _ c.if-state-ne-STATE.false c.if-memory-ne-MEMORY.true refl
+unfolding full
+returns-then-state-ne-STATE c =
+    let e : full board8 (store c.args.state.now c.args.memory.now) ≡ false = grind (arith, nat_tests) in
+    refused board8 _ _ e
 
 pub returns : goal.returns
-returns c = let e : c.copy_in.new.dst ≡ board8.fresh_state c.args.clock = c.copy_in.ensures ∙ rw c.fresh-router.ensures.0 (sets-all c.args.state.now _ (c.if-state-ne-STATE.false ∙ sym (lawful8.length-fresh c.args.clock))) in
-    accepted board8 _ _ _ c.if-state-ne-STATE.false c.if-memory-ne-MEMORY.false (c.put_slots.ensures ∙ rw e (emptied-fresh c.args.clock)) c.clear.ensures refl
+unfolding full
+returns c =
+    let e : full board8 (store c.args.state.now c.args.memory.now) ≡ true = grind (arith, nat_tests) in
+    accepted board8 _ _ e c.if-memory-ne-MEMORY.false (c.put_slots.ensures ∙ rw (c.copy_from_slice.ensures.after, c.fresh-router.ensures.0) (emptied-fresh c.args.clock)) (search rules)
