@@ -51,10 +51,9 @@ fn choose_port(state: &[u8], queues: &Queues, waiting: u8, port: Port) -> Grant
     if layout::has_port(waiting, port) {
         return Grant::BestEffort;
     }
+    let horizon = layout::get(state, Field::Horizon(port.index));
     match heading(state, queues, port, Sort::Early) {
-        Some(s) if key(state, s) <= layout::get(state, Field::Horizon(port.index)) => Grant::Early(
-            s,
-        ),
+        Some(s) if key(state, s) <= horizon => Grant::Early(s),
         _ => Grant::Nobody,
     }
 }

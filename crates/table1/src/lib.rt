@@ -40,11 +40,23 @@ impl Sort {
 }
 
 // Where the queue of a port and a sort stands.
+pub fn place(port: Port, sort: Sort) -> usize
+    ensures start { result ≡ queue_at port.index (early_of sort) }
+    ensures within { result + 258 ≤ 2580 }
+{
+    let on_time = 2 * queue::LENGTH * (port.index as usize);
+    match sort {
+        Sort::OnTime => on_time,
+        Sort::Early => on_time + queue::LENGTH,
+    }
+}
+
+// Its bytes in the area.
 fn span(port: Port, sort: Sort) -> Range<usize>
     ensures start { result.start ≡ queue_at port.index (early_of sort) }
     ensures end { (result.end ≡ result.start + 258) × (result.end ≤ 2580) }
 {
-    let start = queue::LENGTH * (2 * port.index as usize + sort as usize);
+    let start = place(port, sort);
     start..start + queue::LENGTH
 }
 

@@ -20,11 +20,11 @@ returns-in-Some-heading-clause-wins c = head-wins _ _ (omega arith) _ c.in-Some-
 -- In what follows neither a slot on time nor best-effort has the port.
 pub returns-in-Some-heading-clause-choice : goal.returns-in-Some-heading-clause-choice
 returns-in-Some-heading-clause-choice c =
-    grants-early _ _ _ _ (c.in_default.ensures, sym c.if-has_port.ensures) c.in-Some-heading.ensures c.key.ensures c.get.ensures (le-leb c.key.result c.get.result (omega arith))
+    grants-early _ _ _ _ (c.in_default.ensures, sym c.if-has_port.ensures) c.in-Some-heading.ensures c.key.ensures c.get-horizon.ensures (le-leb c.key.result c.get-horizon.result (omega arith))
 
 pub returns-in_default-heading-clause-choice : goal.returns-in_default-heading-clause-choice
 returns-in_default-heading-clause-choice c =
-    grants-early _ _ _ _ (c.in_default.ensures, sym c.if-has_port.ensures) c.in-Some-heading.ensures c.key.ensures c.get.ensures (lt-leb c.key.result c.get.result (omega arith))
+    grants-early _ _ _ _ (c.in_default.ensures, sym c.if-has_port.ensures) c.in-Some-heading.ensures c.key.ensures c.get-horizon.ensures (lt-leb c.key.result c.get-horizon.result (omega arith))
 
 pub returns-in_default-heading-2-clause-choice : goal.returns-in_default-heading-2-clause-choice
 returns-in_default-heading-2-clause-choice c =
