@@ -36,13 +36,12 @@ impl From<Fault> for u16 {
 pub fn router_fault(state: &[u8], memory: &[u8]) -> Option<Fault>
     ensures { fault_answer result ≡ service_fault board8 (store state.now memory.now) }
 {
-    match questions::of_store(state, memory) {
-        Ok(()) => None,
-        Err(Refusal::Packets) => {
-            let slot = sound::lowest_bad(state.as_array().unwrap(), memory.as_array().unwrap());
-            slot.map(Fault::Packet)
+    match questions::of_store(state, memory).err()? {
+        Refusal::Packets => {
+            let slot = sound::lowest_bad(state.as_array().unwrap(), memory.as_array().unwrap())?;
+            Some(Fault::Packet(slot))
         }
-        Err(refusal) => Some(Fault::Question(refusal)),
+        refusal => Some(Fault::Question(refusal)),
     }
 }
 

@@ -1,8 +1,8 @@
 -- `router::router_control` meets its contract: a refusal alters nothing, and past the questions the register is known and the write is `written`. Assumes nothing.
-use mathlib.Core.Path.{◌≡◌, refl, sym, ap, ◌∙◌}
-use Rattle.std.proofs.lemmas.Result.{err_from_is_err_and}
-use Rattle.layout.specs.Numbers.{answer_of}
-use Rattle.layout.proofs.Refusals.{refuses}
+use mathlib.Core.Path.{◌≡◌, refl, sym, ◌∙◌}
+use native.Mathlib.Omega.{arith}
+use Rattle.layout.specs.Numbers.{number_of, answer_of}
+use Rattle.sound.proofs.Accepted.{number-some}
 use Rattle.control.proofs.Named.{named, number-named}
 use Rattle.questions.proofs.Passed.{known}
 use Rattle.router.proofs.Outcomes.{control-refused, control-accepted}
@@ -10,12 +10,11 @@ use Rattle.router.proofs.router_control.Goals as goal
 
 pub returns-in_err-of_control : goal.returns-in_err-of_control
 returns-in_err-of_control c =
-    let p = err_from_is_err_and c.from_residual.result c.from_residual.ensures.1 in
-    rw (p.1, p.2) (control-refused _ _ _ _ (sym (ap answer_of c.in_err-of_control.was) ∙ c.of_control.ensures) (refuses _))
+    let e : answer_of c.from_residual.result ≡ number_of c.in_err-of_control.field-0.0 = grind arith in
+    rw e (control-refused _ _ _ _ c.in_err-of_control.ensures (number-some c.in_err-of_control.field-0.0))
 
 pub unwrap-requires : goal.unwrap-requires
-unwrap-requires c = named _ _ c.try_from.ensures (known _ _ c.args.value (sym c.of_control.ensures ∙ ap answer_of c.in_ok-of_control.was))
+unwrap-requires c = named _ _ c.try_from.ensures (known _ _ c.args.value (sym c.in_ok-of_control.ensures))
 
 pub returns : goal.returns
-returns c =
-    control-accepted _ _ _ _ (sym (ap answer_of c.in_ok-of_control.was) ∙ c.of_control.ensures) refl _ (c.write_register.ensures ∙ rw (number-named _ _ _ c.try_from.ensures c.unwrap.ensures))
+returns c = control-accepted _ _ _ _ c.in_ok-of_control.ensures refl _ (c.write_register.ensures ∙ rw (number-named _ _ _ c.try_from.ensures c.unwrap.ensures))

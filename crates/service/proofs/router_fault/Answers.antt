@@ -1,44 +1,29 @@
--- `service::router_fault` meets its contract: the number of lengths and soundness, and with 15 there is a bad slot. Assumes nothing.
-use Prim.Native.Nat.{ℕ, ◌<◌}
-use mathlib.Core.Path.{◌≡◌, sym, ◌∙◌}
-use native.Mathlib.Omega.{arith}
-use Rattle.rules.specs.Areas.{Store}
-use Rattle.rules.specs.Board.{board8}
-use Rattle.rules.specs.Questions.{lowest_bad}
-use Rattle.any_state.proofs.Entries.{store_number, lowest-bad, service-same, service-adds}
-use Rattle.passes.specs.Stores.{store}
-use Rattle.questions.proofs.Passed.{full-lengths}
+-- `service::router_fault` meets its contract: no fault, a question's, or of stored packets the lowest bad slot (Faults). Assumes nothing.
+use mathlib.Core.Path.{◌≡◌}
+use borrow.Author.Rules.{rules}
+use Rattle.service.proofs.Faults.{no-fault, question-fault, lengths, some-slot, slot-fault}
 use Rattle.service.proofs.router_fault.Goals as goal
 
--- With 15 the bad slot is below 256.
-below : (r : Store) (n s : ℕ) → n ≡ store_number board8 r → n ≡ 15 → s ≡ lowest_bad board8 r → s < 256
-below r n s g e h = let l = (lowest-bad board8 r (service-adds board8 r (sym g ∙ e)).2).slot in omega (arith, h)
+pub returns-in_err-refusal : goal.returns-in_err-refusal
+returns-in_err-refusal c = rw c.from_residual.ensures (no-fault _ _ c.of_store.ensures.number c.in_err-refusal.ensures.value)
 
-pub returns-then-number-ne15 : goal.returns-then-number-ne15
-returns-then-number-ne15 c =
-    let r = store c.args.state.now c.args.memory.now in
-    let g : c.wide-number.result ≡ store_number board8 r = c.wide-number.ensures.0 ∙ c.number.ensures ∙ c.of_store.ensures in
-    g ∙ service-same board8 r (λ e. c.if-number-ne15.true (g ∙ e))
+pub unwrap-requires : goal.unwrap-requires
+unwrap-requires c = c.as_array.ensures.variant.1 (lengths _ _ c.of_store.ensures.number _ c.in_ok-refusal.ensures.value c.in-Packets.is).0
 
-pub lowest_bad-requires : goal.lowest_bad-requires
-lowest_bad-requires c =
-    let r = store c.args.state.now c.args.memory.now in
-    let g : c.wide-number.result ≡ store_number board8 r = c.wide-number.ensures.0 ∙ c.number.ensures ∙ c.of_store.ensures in
-    full-lengths r (service-adds board8 r (sym g ∙ c.if-number-ne15.false)).1
+pub unwrap-requires-in-Packets : goal.unwrap-requires-in-Packets
+unwrap-requires-in-Packets c = c.as_array-in-Packets.ensures.variant.1 (lengths _ _ c.of_store.ensures.number _ c.in_ok-refusal.ensures.value c.in-Packets.is).1
 
-pub overflow_mul-result : goal.overflow_mul-result
-overflow_mul-result c =
-    let r = store c.args.state.now c.args.memory.now in
-    omega (arith, below r _ _ (c.wide-number.ensures.0 ∙ c.number.ensures ∙ c.of_store.ensures) c.if-number-ne15.false c.lowest_bad.ensures)
+pub returns-in_err-slot-in-Packets : goal.returns-in_err-slot-in-Packets
+returns-in_err-slot-in-Packets c =
+    let s : c.unwrap.result.now ≡ c.args.state.now = search rules in
+    let m : c.unwrap-in-Packets.result.now ≡ c.args.memory.now = search rules in
+    absurd (some-slot _ _ c.of_store.ensures.number _ c.in_ok-refusal.ensures.value c.in-Packets.is (rw (s, m) at c.in_err-slot-in-Packets.ensures))
 
-pub overflow_add-result : goal.overflow_add-result
-overflow_add-result c =
-    let r = store c.args.state.now c.args.memory.now in
-    omega (arith, below r _ _ (c.wide-number.ensures.0 ∙ c.number.ensures ∙ c.of_store.ensures) c.if-number-ne15.false c.lowest_bad.ensures)
+pub returns-in_ok-slot-in-Packets : goal.returns-in_ok-slot-in-Packets
+returns-in_ok-slot-in-Packets c =
+    let s : c.unwrap.result.now ≡ c.args.state.now = search rules in
+    let m : c.unwrap-in-Packets.result.now ≡ c.args.memory.now = search rules in
+    slot-fault _ _ c.of_store.ensures.number _ c.in_ok-refusal.ensures.value c.in-Packets.is _ (rw (s, m) at c.in_ok-slot-in-Packets.ensures)
 
-pub returns : goal.returns
-returns c =
-    let r = store c.args.state.now c.args.memory.now in
-    let g : c.wide-number.result ≡ store_number board8 r = c.wide-number.ensures.0 ∙ c.number.ensures ∙ c.of_store.ensures in
-    let e = (service-adds board8 r (sym g ∙ c.if-number-ne15.false)).3 in
-    omega (arith, c.lowest_bad.ensures)
+pub returns-in_default : goal.returns-in_default
+returns-in_default c = question-fault _ _ c.of_store.ensures.number _ c.in_ok-refusal.ensures.value c.in_default.not-Packets

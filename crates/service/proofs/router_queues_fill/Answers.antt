@@ -1,16 +1,25 @@
--- `service::router_queues_fill` meets its contract: a number other than 0 alters nothing, and with 0 the queues are `filled`. Assumes nothing.
-use mathlib.Core.Path.{◌∙◌}
+-- `service::router_queues_fill` meets its contract: a refusal alters nothing, and past the questions the queues are `filled`. Assumes nothing.
+use mathlib.Core.Path.{◌≡◌, refl, ◌∙◌}
 use native.Mathlib.Omega.{arith}
+use borrow.Author.Rules.{rules}
+use lib.ListN.{length}
+use Rattle.layout.specs.Numbers.{number_of, answer_of}
+use Rattle.queues.specs.Area.{queues_length}
+use Rattle.sound.proofs.Accepted.{number-some}
 use Rattle.service.proofs.Outcomes.{wrong-length, right-length, fill-refused, fill-accepted}
 use Rattle.service.proofs.router_queues_fill.Goals as goal
 
-pub returns-then-length-ne-LENGTH : goal.returns-then-length-ne-LENGTH
-returns-then-length-ne-LENGTH c = fill-refused _ _ (c.number.ensures ∙ wrong-length _ _ (λ z. omega arith)) (λ z. omega arith)
+pub returns-in_default : goal.returns-in_default
+returns-in_default c = fill-refused _ _ (wrong-length _ _ (λ e. omega (arith, c.in_default.ensures.cases))) (λ z. omega arith)
 
-pub returns-then-number-ne0 : goal.returns-then-number-ne0
-returns-then-number-ne0 c =
-    fill-refused _ _ (c.number-number.ensures ∙ c.of_store.ensures ∙ right-length c.args.queues.now _ (omega arith)) (λ z. omega arith)
+pub returns-in_err-of_store : goal.returns-in_err-of_store
+returns-in_err-of_store c =
+    let e : answer_of c.from_residual.result ≡ number_of c.in_err-of_store.field-0.0 = grind arith in
+    let same : c.in-Some.area.now ≡ c.args.queues.now = search rules in
+    let sized : length c.args.queues.now ≡ queues_length = search rules in
+    rw (e, same) (fill-refused _ _ (c.in_err-of_store.ensures.number ∙ right-length _ _ sized) (number-some c.in_err-of_store.field-0.0))
 
 pub returns : goal.returns
 returns c =
-    fill-accepted _ _ (c.number-number.ensures ∙ c.of_store.ensures ∙ right-length c.args.queues.now _ (omega arith)) (omega arith) _ c.fill.ensures
+    let sized : length c.args.queues.now ≡ queues_length = search rules in
+    fill-accepted _ _ (c.in_ok-of_store.ensures.number ∙ right-length _ _ sized) refl _ c.fill.ensures

@@ -1,22 +1,33 @@
--- `service::router_queues_tick` meets its contract: a number other than 0 alters nothing, and with 0 the areas are whole, the stack has room, and the work is `ticked`.
+-- `service::router_queues_tick` meets its contract: a refusal alters nothing, and past the questions the areas have their lengths, the stack has room, and the work is `ticked`.
 -- Assumes nothing.
 use mathlib.Core.Bool.{not}
-use mathlib.Core.Path.{ap, ◌∙◌}
+use mathlib.Core.Path.{◌≡◌, refl, ap}
 use native.Mathlib.Omega.{arith}
+use borrow.Author.Rules.{rules}
+use lib.ListN.{length}
+use Rattle.layout.specs.Numbers.{number_of, answer_of}
+use Rattle.queues.specs.Area.{queues_length}
+use Rattle.sound.proofs.Accepted.{number-some}
 use Rattle.service.proofs.Outcomes.{wrong-length, router-refuses, queues-decide, tick-refused, tick-accepted}
 use Rattle.service.proofs.router_queues_tick.Goals as goal
 
-pub returns-then-queues-ne-LENGTH : goal.returns-then-queues-ne-LENGTH
-returns-then-queues-ne-LENGTH c = tick-refused _ _ _ _ _ _ _ (c.number.ensures ∙ wrong-length _ _ c.if-queues-ne-LENGTH.true) (λ z. omega arith)
+pub returns-in_default : goal.returns-in_default
+returns-in_default c = tick-refused _ _ _ _ _ _ _ (wrong-length _ _ (λ e. omega (arith, c.in_default.ensures.cases))) (λ z. omega arith)
 
-pub returns-then-n-ne0 : goal.returns-then-n-ne0
-returns-then-n-ne0 c =
-    tick-refused _ _ _ _ _ _ _ (router-refuses _ _ c.if-queues-ne-LENGTH.false _ _ (c.number-n.ensures ∙ c.of_tick.ensures.number) c.if-n-ne0.true) c.if-n-ne0.true
+pub returns-in_err-of_tick : goal.returns-in_err-of_tick
+returns-in_err-of_tick c =
+    let e : answer_of c.from_residual.result ≡ number_of c.in_err-of_tick.field-0.0 = grind arith in
+    let sized : length c.args.queues.now ≡ queues_length = search rules in
+    let q : c.in-Some.queues.now ≡ c.args.queues.now = search rules in
+    let some = number-some c.in_err-of_tick.field-0.0 in
+    rw (e, q) (tick-refused _ _ _ _ _ _ _ (router-refuses _ _ sized _ _ c.in_err-of_tick.ensures.number some) some)
 
 pub returns-then-not-fitting : goal.returns-then-not-fitting
 returns-then-not-fitting c =
-    tick-refused _ _ _ _ _ _ _ (c.number-then-not-fitting.ensures ∙ queues-decide _ _ c.if-queues-ne-LENGTH.false _ _ (c.number-n.ensures ∙ c.of_tick.ensures.number) c.if-n-ne0.false c.fitting.ensures (ap not c.if-not-fitting.true)) (λ z. omega arith)
+    let sized : length c.args.queues.now ≡ queues_length = search rules in
+    let s : c.unwrap-state.result.now ≡ c.args.state.now = search rules in
+    let q : c.in-Some.queues.now ≡ c.args.queues.now = search rules in
+    rw (s, q) (tick-refused _ _ _ _ _ _ _ (queues-decide _ _ sized _ _ c.in_ok-of_tick.ensures.number refl (rw (s, q) at c.fitting.ensures) (ap not c.if-not-fitting.true)) (λ z. omega arith))
 
 pub returns : goal.returns
-returns c =
-    tick-accepted _ _ _ _ _ _ _ (c.if-n-ne0.false ∙ queues-decide _ _ c.if-queues-ne-LENGTH.false _ _ (c.number-n.ensures ∙ c.of_tick.ensures.number) c.if-n-ne0.false c.fitting.ensures (ap not c.if-not-fitting.false)) c.if-n-ne0.false _ _ _ c.work.ensures
+returns c = ?
