@@ -30,4 +30,10 @@ returns-then-not-fitting c =
     rw (s, q) (tick-refused _ _ _ _ _ _ _ (queues-decide _ _ sized _ _ c.in_ok-of_tick.ensures.number refl (rw (s, q) at c.fitting.ensures) (ap not c.if-not-fitting.true)) (λ z. omega arith))
 
 pub returns : goal.returns
-returns c = ?
+returns c =
+    let sized : length c.args.queues.now ≡ queues_length = search rules in
+    let s : c.unwrap-state.result.now ≡ c.args.state.now = search rules in
+    let q : c.in-Some.queues.now ≡ c.args.queues.now = search rules in
+    let m : c.unwrap.result.now ≡ c.args.memory.now = search rules in
+    let a : c.unwrap-2.result.now ≡ c.args.arrivals.now = search rules in
+    tick-accepted _ _ _ _ _ _ _ (queues-decide _ _ sized _ _ c.in_ok-of_tick.ensures.number refl (rw (s, q) at c.fitting.ensures) (ap not c.if-not-fitting.false)) refl _ _ _ (rw (s, m, q, a) at c.work.ensures)
