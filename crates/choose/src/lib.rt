@@ -43,11 +43,11 @@ impl From<Grant> for u8 {
     }
 }
 
-// Two keys and an address as the digits of a number.
+// Two keys and an address as the digits of a number. Not `u32::from_be_bytes`: it takes an instruction more of each slot, and `tick-256-idle` then 19,300, where plain C's takes 19,230.
 fn digits(key: u8, second: u8, s: SlotAddress) -> u32
     ensures { result ≡ (key * 256 + second) * 256 + s.0 }
 {
-    u32::from_be_bytes([0, key, second, s.0])
+    (u32::from(key) * 256 + u32::from(second)) * 256 + u32::from(s.0)
 }
 
 // A slot's keys and address as one number, the on-time ones first.
@@ -77,16 +77,18 @@ fn look(state: &[u8], t: ClockReading, s: SlotAddress, bests: &mut [u32; Router:
     layout::change_ports(bests, mask, |best| rank.min(best));
 }
 
-// All slots from this one on are empty. It is never 0: a pass looks at slot 0 in any case, and starts without a test.
+// All slots from this one on are empty. It is never 0: a pass looks at slot 0 in any case, and starts without a test. Not a `for` over the reversed range: `tick-0-idle` took 8,043 instructions by it, plain C's takes 7,970.
 pub fn end(state: &[u8]) -> usize
     ensures { EmptyFrom board8 state.now result }
 {
-    for i in (1..Router::SLOTS).rev() {
-        if layout::get(state, Field::Mask(SlotAddress(i as u8))) != 0 {
-            return i + 1;
+    let mut e: usize = Router::SLOTS;
+    while 1 < e {
+        if layout::get(state, Field::Mask(SlotAddress((e - 1) as u8))) != 0 {
+            return e;
         }
+        e -= 1;
     }
-    1
+    e
 }
 
 // The least ranks of all slots; those from `end` on are empty.
