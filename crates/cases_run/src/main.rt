@@ -1,7 +1,8 @@
 // Runs document 01's cases through the router's entries, compares all outgoing and answer bytes, and prints of each case what is expected and what was found.
 #![tactic(auto)]
 
-use layout::Router;
+use control::Register;
+use layout::{Answers, Memory, Packets, Router, State};
 use std::fmt::Display;
 use std::{array, fmt, io};
 

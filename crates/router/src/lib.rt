@@ -22,7 +22,12 @@ pub fn router_fresh(state: &mut [u8], memory: &mut [u8], clock: u8) -> Result<()
 }
 
 // Writes a value to a control register.
-pub fn router_control(state: &mut [u8], memory: &[u8], register: u8, value: u8) -> Result<(), Refusal>
+pub fn router_control(
+    state: &mut [u8],
+    memory: &[u8],
+    register: u8,
+    value: u8,
+) -> Result<(), Refusal>
     ensures { ◌≡◌ {A = Outcome Store}
         (record { reply = number_reply (answer_of result); after = record { state = state.new; memory = memory.now } })
         (control_write board8 (record { state = state.old; memory = memory.now }) register value) }

@@ -46,11 +46,7 @@ pub fn router_fault(state: &[u8], memory: &[u8]) -> Option<Fault>
 }
 
 // Fills the queues from a sound state.
-pub fn router_queues_fill(
-    state: &[u8],
-    memory: &[u8],
-    queues: &mut [u8],
-) -> Result<(), Refusal>
+pub fn router_queues_fill(state: &[u8], memory: &[u8], queues: &mut [u8]) -> Result<(), Refusal>
     ensures { ◌≡◌ {A = Outcome Bench}
         (record { reply = number_reply (answer_of result); after = record { store = store state.now memory.now; queues = queues.new } })
         (fill board8 (record { store = store state.now memory.now; queues = queues.old })) }
