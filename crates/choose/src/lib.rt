@@ -2,11 +2,11 @@
 #![tactic(auto)]
 
 ghost use Rattle.std.specs.Prelude.{◌≡◌, cond, suc, ◌+◌, ◌*◌, ◌<◌, length};
-ghost use Rattle.rules.specs.Areas.{nobody, best_effort};
+ghost use Rattle.rules.specs.Areas.{nobody, best_effort, grant_code};
 ghost use Rattle.rules.specs.Board.{clock, board8};
 ghost use Rattle.rules.specs.Tick.{grant};
 ghost use Rattle.passes.specs.Empty.{EmptyFrom};
-ghost use Rattle.passes.specs.Ports.{EachPort, changed};
+ghost use Rattle.passes.specs.Ports.{EachPort};
 ghost use Rattle.passes.specs.Ranks as Ranks;
 ghost use Rattle.choose.specs.Grants.{grant_of, Granted};
 ghost use Rattle.choose.specs.Lines.{RankOf, Offered};
@@ -28,11 +28,26 @@ pub enum Grant {
     Early(SlotAddress),
 }
 
+// What a port answers, by who has it.
+impl From<Grant> for u8 {
+    ghost from_gives = { λ grant code. code ≡ grant_code (grant_of grant) };
+
+    #[tactic(auto, unfolding(rules::specs::Areas::grant_code))]
+    fn from(grant: Grant) -> u8 {
+        match grant {
+            Grant::Nobody => 0,
+            Grant::OnTime(_) => 1,
+            Grant::BestEffort => 2,
+            Grant::Early(_) => 3,
+        }
+    }
+}
+
 // Two keys and an address as the digits of a number.
 fn digits(key: u8, second: u8, s: SlotAddress) -> u32
     ensures { result ≡ (key * 256 + second) * 256 + s.0 }
 {
-    ((key as u32) * 256 + second as u32) * 256 + s.0 as u32
+    u32::from_be_bytes([0, key, second, s.0])
 }
 
 // A slot's keys and address as one number, the on-time ones first.
@@ -48,25 +63,6 @@ pub fn rank(state: &[u8], t: ClockReading, s: SlotAddress) -> u32
     }
 }
 
-fn lesser(rank: u32, best: u32) -> u32
-    ensures { result ≡ Ranks.lesser rank best }
-{
-    if rank < best { rank } else { best }
-}
-
-// Gives each port in the mask the lesser of its least rank and this one, lowest port first.
-fn offer(bests: &mut [u32; Router::PORTS], mask: u8, rank: u32)
-    requires { (mask < 32) × (length bests.old ≡ 5) }
-    ensures { EachPort (changed (Ranks.lesser rank) mask bests.old) bests.new }
-{
-    let mut left = mask;
-    while left != 0 {
-        let p = u8::trailing_zeros(left) as usize;
-        bests[p] = lesser(rank, bests[p]);
-        left = left & (left - 1);
-    }
-}
-
 // The least ranks, with slot s looked at. On a port that its mask has not the slot is ineligible, the third line of Fig. 7, and is not offered.
 fn look(state: &[u8], t: ClockReading, s: SlotAddress, bests: &mut [u32; Router::PORTS])
     requires { (t.0 ≡ board8.get state.now clock) × EachPort (Ranks.best board8 state.now s.0) bests.old }
@@ -77,21 +73,20 @@ fn look(state: &[u8], t: ClockReading, s: SlotAddress, bests: &mut [u32; Router:
     if mask == 0 {
         return;
     }
-    offer(bests, mask, rank(state, t, s));
+    let rank = rank(state, t, s);
+    layout::change_ports(bests, mask, |best| rank.min(best));
 }
 
 // All slots from this one on are empty. It is never 0: a pass looks at slot 0 in any case, and starts without a test.
 pub fn end(state: &[u8]) -> usize
     ensures { EmptyFrom board8 state.now result }
 {
-    let mut e: usize = Router::SLOTS;
-    while 1 < e {
-        if layout::get(state, Field::Mask(SlotAddress((e - 1) as u8))) != 0 {
-            return e;
+    for i in (1..Router::SLOTS).rev() {
+        if layout::get(state, Field::Mask(SlotAddress(i as u8))) != 0 {
+            return i + 1;
         }
-        e -= 1;
     }
-    e
+    1
 }
 
 // The least ranks of all slots; those from `end` on are empty.
@@ -101,10 +96,8 @@ fn scan(state: &[u8], end: usize) -> [u32; Router::PORTS]
 {
     let t = ClockReading(layout::get(state, Field::Clock));
     let mut bests = [NONE; Router::PORTS];
-    let mut i: usize = 0;
-    while i < end {
+    for i in 0..end {
         look(state, t, SlotAddress(i as u8), &mut bests);
-        i += 1;
     }
     bests
 }
@@ -120,10 +113,7 @@ fn bound(waits: bool, ahead: u32) -> u32
 fn unsent(waits: bool) -> Grant
     ensures { grant_of result ≡ cond waits best_effort nobody }
 {
-    if waits {
-        return Grant::BestEffort;
-    }
-    Grant::Nobody
+    if waits { Grant::BestEffort } else { Grant::Nobody }
 }
 
 // Who has a port, by its least rank.
@@ -140,7 +130,7 @@ fn choose(state: &[u8], waiting: u8, port: u8, best: u32) -> Grant
         return unsent(waits);
     }
     let horizon = layout::get(state, Field::Horizon(port));
-    if best < bound(waits, EARLY + (horizon as u32 + 1) * 65536) {
+    if best < bound(waits, EARLY + (u32::from(horizon) + 1) * 65536) {
         return Grant::Early(slot);
     }
     unsent(waits)
@@ -152,12 +142,5 @@ pub fn grants(state: &[u8], end: usize, waiting: u8) -> [Grant; Router::PORTS]
     ensures { Granted (grant board8 state.now waiting) 5 result }
 {
     let bests = scan(state, end);
-    let mut grants = [Grant::Nobody; Router::PORTS];
-    let mut p: usize = 0;
-    while p < Router::PORTS {
-        let g = choose(state, waiting, p as u8, bests[p]);
-        grants[p] = g;
-        p += 1;
-    }
-    grants
+    std::array::from_fn(|p| choose(state, waiting, p as u8, bests[p]))
 }

@@ -10,17 +10,19 @@ ghost use Rattle.std.proofs.Math.Option.{some};
 use layout::{ClockReading, Router};
 
 // The time d ticks after t.
+#[tactic(auto, unfolding(rules::specs::Areas::bits, rules::specs::Clock::plus))]
 pub fn later(t: ClockReading, d: u8) -> ClockReading
     ensures { result.0 ≡ plus (bits 1) t.0 d }
 {
-    ClockReading(std::num::wrapping_add_u8(t.0, d))
+    ClockReading(t.0.wrapping_add(d))
 }
 
 // How many ticks a time comes after t, by the difference that turns over; a key has it by cases (`ahead`).
+#[tactic(auto, unfolding(rules::specs::Areas::bits, rules::specs::Clock::minus))]
 pub fn since(time: ClockReading, t: ClockReading) -> u8
     ensures { result ≡ minus (bits 1) time.0 t.0 }
 {
-    std::num::wrapping_sub_u8(time.0, t.0)
+    time.0.wrapping_sub(t.0)
 }
 
 // The offset is at least -d.
@@ -28,10 +30,7 @@ pub fn in_time(time: ClockReading, t: ClockReading, d: u8) -> bool
     ensures { result ≡ int_le (neg_ℤ (pos d)) (offset (bits 1) time.0 t.0) }
 {
     let x = since(time, t);
-    if x < Router::HALF {
-        return true;
-    }
-    256 - (x as u16) <= d as u16
+    x < Router::HALF || 256 - u16::from(x) <= u16::from(d)
 }
 
 // Where a time lies, seen from the clock reading t: one case for each half of the clock on either side of t. Fig. 7 of document 001, whose keys have a bit and a number:
@@ -57,8 +56,8 @@ const HALF: u32 = Router::HALF as u32;
 pub fn case_of(time: ClockReading, t: ClockReading) -> Case
     ensures { TheCase (bits 1) result time.0 t.0 }
 {
-    let x = time.0 as u32;
-    let now = t.0 as u32;
+    let x = u32::from(time.0);
+    let now = u32::from(t.0);
     if x <= now {
         if now <= x + HALF {
             return Case::Behind;
@@ -72,6 +71,7 @@ pub fn case_of(time: ClockReading, t: ClockReading) -> Case
 }
 
 // How many ticks n is short of a turn; 0 is short of none.
+// Not `wrapping_neg`: a key takes no wrapping operation (document 02, [5]; docs/PROMISES.md, "with no remainder or wrapping operation").
 fn rest(n: u8) -> u8
     ensures { result ≡ rest_of (bits 1) n }
 {
@@ -81,7 +81,7 @@ fn rest(n: u8) -> u8
     255 - n + 1
 }
 
-// How far a time is ahead of t, without sign.
+// How far a time is ahead of t, without sign. For the same reason not `since`.
 fn ahead(time: ClockReading, t: ClockReading) -> u8
     ensures by_case { AheadBy (bits 1) time.0 t.0 result }
     ensures difference { result ≡ minus (bits 1) time.0 t.0 }
@@ -99,10 +99,7 @@ pub fn on_time(time: ClockReading, t: ClockReading) -> bool
     ensures { result ≡ int_le (offset (bits 1) time.0 t.0) (pos 0) }
 {
     let x = ahead(time, t);
-    if x == 0 {
-        return true;
-    }
-    Router::HALF <= x
+    x == 0 || Router::HALF <= x
 }
 
 // A key of an eligible packet: the variant is the figure's second bit, the first number the figure's. A packet that is ineligible on a port, its mask without the port, has none there. The second decides among equal ones: on time the offset, from half a turn behind t on, early deadline - t.

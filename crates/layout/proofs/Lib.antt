@@ -1,3 +1,4 @@
 mod OneByte
 pub mod FreshState
 pub mod Parts
+pub mod LowestPort

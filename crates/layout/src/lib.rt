@@ -1,7 +1,7 @@
 // The layout of what the router is lent: its sizes, the numbers of refusals, the fields of the state, a port's bit, and a copy.
 #![tactic(auto)]
 
-ghost use Rattle.std.specs.Prelude.{◌≡◌, ◌+◌, ◌*◌, ◌/◌, ◌%◌, ◌^◌, ◌≤◌, ◌<◌, ◌↔◌, IsSome, IfSome, length, get_or, set, replicate};
+ghost use Rattle.std.specs.Prelude.{◌≡◌, ◌+◌, ◌*◌, ◌/◌, ◌%◌, ◌^◌, ◌≤◌, ◌<◌, ◌↔◌, IsSome, IfSome, ℕ, false, IsTrue, length, get_or, slice_index_or, set, replicate};
 ghost use Rattle.std.proofs.lemmas.List.Edits.{sets};
 ghost use Rattle.rules.specs.Areas.{has};
 ghost use Rattle.rules.specs.Board.{Time, Deadline, free, board8, table8};
@@ -302,4 +302,20 @@ pub fn has_port(mask: u8, port: Port) -> bool
     ensures { result ≡ has mask port.index }
 {
     (mask >> port.index) % 2 == 1
+}
+
+// Changes by f the cell of each port in the mask, the lowest port first.
+// Not a `for` over the five cells with a test of the port: `tick-256-idle` of docs/BENCH.md took 21,874 instructions by it, plain C's takes 19,230, and this 18,784.
+pub fn change_ports<T: Copy, F: Fn(T) -> T>(cells: &mut [T; Router::PORTS], mask: u8, f: F)
+    requires ports { mask < 32 }
+    requires callable { (p : ℕ) (x : T) → p < 5 → IsTrue (has mask p) → F.pre f (slice_index_or cells.old p x) }
+    ensures changed { (p : ℕ) (x : T) → p < 5 → IsTrue (has mask p) → F.post f (slice_index_or cells.old p x) (slice_index_or cells.new p x) }
+    ensures rest { (p : ℕ) (x : T) → p < 5 → has mask p ≡ false → slice_index_or cells.new p x ≡ slice_index_or cells.old p x }
+{
+    let mut left = mask;
+    while left != 0 {
+        let p = left.trailing_zeros() as usize;
+        cells[p] = f(cells[p]);
+        left = left & (left - 1);
+    }
 }

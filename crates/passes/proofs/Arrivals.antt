@@ -10,7 +10,7 @@ use lib.Seq.{sets}
 use lib.Dec.{eqb}
 use lib.IntN.{pos, neg_ℤ}
 use lib.Signed.{le_z}
-use borrow.Author.Tests.{eqb-false}
+use borrow.Author.Tests.{eqb-false, eq-eqb}
 use Rattle.rules.specs.Clock.{plus, offset}
 use Rattle.rules.specs.Areas.{Store, packet_length, byte, bits, packet, stamp, payload, packed, has, ports_below, per_port, asked, arrival_questions, arrival_answer}
 use Rattle.rules.specs.Board.{Board, Idle, Time, Deadline, Mask, Outgoing, Delay, Routes, clock, free}
@@ -19,6 +19,7 @@ use Rattle.passes.specs.Room.{used}
 use Rattle.rules.proofs.AreaLaws.{filled, filled_next, filled-all}
 use Rattle.rules.proofs.BoardLaws.{Laws}
 use Rattle.rules.proofs.Booleans.{not-false}
+use Rattle.passes.proofs.Packets.{filled-number}
 use Rattle.passes.proofs.Room.{placed-used}
 use Rattle.passes.specs.Stores.{store}
 use Rattle.passes.specs.Arrivals.{in_time, met}
@@ -32,12 +33,20 @@ only-stored true true false room e = absurd (omega arith)
 only-stored true true true false e = absurd (omega arith)
 only-stored true true true true e = refl
 
+-- One that no question refuses has passed the last.
+only-passed : (routed in_time room : Bool) → asked (arrival_questions routed in_time room) ≡ 0 → room ≡ true
+unfolding asked
+only-passed false in_time room e = absurd (omega arith)
+only-passed true false room e = absurd (omega arith)
+only-passed true true false e = absurd (omega arith)
+only-passed true true true e = refl
+
 -- Where question 6 is passed, 7 and 8 decide.
-pub routed-answer : (in_time full : Bool) → arrival_answer (asked (arrival_questions true in_time (not full))) ≡ cond in_time (cond full 8 1) 7
-unfolding arrival_answer asked
-routed-answer false full = refl
-routed-answer true true = refl
-routed-answer true false = refl
+routed-refusal : (in_time full : Bool) → asked (arrival_questions true in_time (not full)) ≡ cond in_time (cond full 8 0) 7
+unfolding asked
+routed-refusal false full = refl
+routed-refusal true true = refl
+routed-refusal true false = refl
 
 module _ (B : Board) where
   open B use {clock_bytes as c, state_length, get, put}
@@ -56,6 +65,24 @@ module _ (B : Board) where
       let n = get s free in
       let h : (n ≡ 0 → ⊥) = eqb-false n 0 (not-false (eqb n 0) (only-stored (has arriving p) (not (eqb m 0)) (in_time B s k) (not (eqb n 0)) e)) in
       omega arith
+
+  -- So has one that no question refuses.
+  pub passed-has-free : (s k : List ℕ) → arrival_refusal B s k ≡ 0 → 0 < get s free
+  unfolding arrival_refusal
+  passed-has-free s k e =
+      let m = get s (Routes, byte k 0) in
+      let n = get s free in
+      let h : (n ≡ 0 → ⊥) = eqb-false n 0 (not-false (eqb n 0) (only-passed (not (eqb m 0)) (in_time B s k) (not (eqb n 0)) e)) in
+      omega arith
+
+  -- The questions, read by read.
+  pub refusal-read : (s k : List ℕ) {m n : ℕ} {t : Bool} → m ≡ get s (Routes, byte k 0) → t ≡ in_time B s k → n ≡ get s free → eqb m 0 ≡ false → cond t (cond (eqb n 0) 8 0) 7 ≡ arrival_refusal B s k
+  unfolding arrival_refusal
+  refusal-read s k {m} {n} em et en z = sym (rw (← em, z) (routed-refusal (in_time B s k) (eqb (get s free) 0) ∙ rw (et, en)))
+
+  pub closed-read : (s k : List ℕ) {m : ℕ} → m ≡ get s (Routes, byte k 0) → m ≡ 0 → 6 ≡ arrival_refusal B s k
+  unfolding arrival_refusal asked
+  closed-read s k {m} em z = rw (← em, eq-eqb m 0 z)
 
   -- ---- a packet placed
 
@@ -88,11 +115,8 @@ module _ (B : Board) where
   -- ---- port after port
 
   module _ (r : Store) (arriving : ℕ) (area : List ℕ) where
-    -- The store and the answers after the arrivals on the ports below p: lengths and room are kept.
+    -- The store and the answers after the arrivals on the ports below p: room is kept.
     pub record ArrivedBelow (p : ℕ) (r' : Store) (answers : List ℕ) : Type 0 where
-      pub within : p ≤ 5
-      pub state-kept : length r'.state ≡ length r.state
-      pub memory_kept : length r'.memory ≡ length r.memory
       pub after : r' ≡ arrived B p arriving area r
       pub answered : answers ≡ filled 1 (λ q. met B r arriving area q ∷ []) (replicate 5 0) p
       pub room : used B r.state ≤ 256 → used B r'.state ≤ 256
@@ -100,37 +124,18 @@ module _ (B : Board) where
     -- At first it is the store met.
     pub arrived-none : ArrivedBelow 0 r (replicate 5 0)
     unfolding arrived ports_below
-    arrived-none = record { within = omega arith; state-kept = refl; memory_kept = refl; after = refl; answered = refl; room = λ h. h }
+    arrived-none = record { after = refl; answered = refl; room = λ h. h }
 
     -- One port more: its packet k meets a, which is answered.
     pub arrived-next : {p a : ℕ} {r' r'' : Store} {k l : List ℕ} → ArrivedBelow p r' l → p < 5 → k ≡ packet area p → a ≡ arrival B r'.state arriving p k → r'' ≡ admitted B r' arriving p k
-        → length r''.state ≡ length r'.state → length r''.memory ≡ length r'.memory → (used B r'.state ≤ 256 → used B r''.state ≤ 256) → ArrivedBelow (p + 1) r'' (set l p a)
+        → (used B r'.state ≤ 256 → used B r''.state ≤ 256) → ArrivedBelow (p + 1) r'' (set l p a)
     unfolding arrived
-    arrived-next {p} {a} {r'} {r''} {k} {l} A h ek ea e ls lm room = rw (add-one p) (record {
-      within = omega (arith, A.within);
-      state-kept = ls ∙ A.state-kept;
-      memory_kept = lm ∙ A.memory_kept;
+    arrived-next {p} {a} {r'} {r''} {k} {l} A h ek ea e room = rw (add-one p) (record {
       after = e ∙ rw (ek, A.after);
-      answered = answer;
+      answered = rw (A.answered, ea, ek, A.after) (filled-number (met B r arriving area) (replicate 5 0) p (omega arith));
       room = λ u. room (A.room u);
     })
-      where
-        f : ℕ → List ℕ
-        f q = met B r arriving area q ∷ []
-
-        d : List ℕ
-        d = replicate 5 0
-
-        one : 1 * p ≡ p
-        one = omega arith
-
-        answer : set l p a ≡ filled 1 f d (suc p)
-        answer = rw (A.answered, ea, ek, A.after) (subst (λ (i : ℕ). set (filled 1 f d p) i (met B r arriving area p) ≡ filled 1 f d (suc p)) one (filled_next 1 f d p (λ q i. refl) (omega arith)))
 
     -- After all five.
-    pub arrived-all : {p : ℕ} {r' : Store} {l : List ℕ} → ArrivedBelow p r' l → 5 ≤ p → (l ≡ per_port (λ q. met B r arriving area q ∷ [])) × (r' ≡ arrived B 5 arriving area r)
-    arrived-all {p} {r'} {l} A h =
-        let e : p ≡ 5 = omega (arith, A.within) in
-        let f : ℕ → List ℕ = λ q. met B r arriving area q ∷ [] in
-        let d : List ℕ = replicate 5 0 in
-        (subst (λ (n : ℕ). l ≡ filled 1 f d n) e A.answered ∙ filled-all 1 f d 5 refl, subst (λ (n : ℕ). r' ≡ arrived B n arriving area r) e A.after)
+    pub arrived-all : {r' : Store} {l : List ℕ} → ArrivedBelow 5 r' l → l ≡ per_port (λ q. met B r arriving area q ∷ [])
+    arrived-all A = A.answered ∙ filled-all 1 (λ q. met B r arriving area q ∷ []) (replicate 5 0) 5 refl

@@ -1,5 +1,4 @@
--- Ports of any mask: a mask has those of its five low bits, its lowest port is its lowest bit, and what is done for one port of a mask after the other, lowest
--- first, is done for each of them. Assumes nothing.
+-- Ports of any mask: a mask has those of its five low bits, and the numbers of its ports, changed, are those of a definition. Assumes nothing.
 use Prim.Native.Nat.{ℕ, zero, suc, ◌+◌, ◌-◌, ◌*◌, ◌/◌, ◌%◌, ◌^◌, ◌<◌, ◌≤◌}
 use mathlib.Core.Path.{◌≡◌, refl, sym, ap, ◌∙◌}
 use mathlib.Core.Bool.{Bool, true, false, cond, ◌&&◌, ◌||◌}
@@ -81,61 +80,16 @@ bit_le (suc (suc (suc (suc (suc p))))) h = absurd (omega arith)
 pub bit_shifted : (p : ℕ) → p < 5 → 1 * 2 ^ p % 256 ≡ 2 ^ p
 bit_shifted p h = let l = bit_le p h in omega arith
 
--- ---- the lowest port of a mask
-
--- It is one of the five, the mask has it, and to take the lowest bit away is to leave that port.
-rule : ℕ → ℕ → Bool
-rule m p = ltb p 5 && has m p && eqb (bit_and m (m - 1)) (without m p)
-
--- Computed.
-rules : all 32 (λ m. eqb m 0 || rule m (count_trailing_zeros 8 m)) ≡ true
-unfolding all rule count_trailing_zeros has without
-rules = refl
-
-module _ (m : ℕ) (hm : m < 32) (n : m ≢ 0) where
-  abbrev lowest : ℕ
-  lowest = count_trailing_zeros 8 m
-
-  -- The computed test, at one mask.
-  at : rule m lowest ≡ true
-  at = rw (ne_eqb m 0 n) at (all-at (λ m. eqb m 0 || rule m (count_trailing_zeros 8 m)) 32 m rules hm)
-
-  lowest-there : (ltb lowest 5 && has m lowest) ≡ true
-  unfolding rule
-  lowest-there = and_left (ltb lowest 5 && has m lowest) (eqb (bit_and m (m - 1)) (without m lowest)) at
-
-  pub lowest-port : lowest < 5
-  lowest-port = ltb-true lowest 5 (and_left (ltb lowest 5) (has m lowest) lowest-there)
-
-  has-lowest : has m lowest ≡ true
-  has-lowest = and_right (ltb lowest 5) (has m lowest) lowest-there
-
-  without-lowest : bit_and m (m - 1) ≡ without m lowest
-  unfolding rule
-  without-lowest = eqb-true (bit_and m (m - 1)) (without m lowest) (and_right (ltb lowest 5 && has m lowest) (eqb (bit_and m (m - 1)) (without m lowest)) at)
-
-  -- Once the lowest port's number is changed, the ports left change the rest.
-  pub changed-rest : (h : ℕ → ℕ) (l : List ℕ) → length l ≡ 5 → (x : ℕ) → x ≡ h (get_or l lowest 0)
-      → (p : ℕ) → p < 5 → changed h (bit_and m (m - 1)) (set l lowest x) p ≡ changed h m l p
-  changed-rest h l e x q p hp = rw without-lowest (go (ℕ_discrete p lowest))
-    where
-      go : Dec (p ≡ lowest) → changed h (without m lowest) (set l lowest x) p ≡ changed h m l p
-      go (yes k) = rw (k, has-without-same m lowest (omega arith) lowest-port, has-lowest) (get_or-set_same l lowest x 0 (omega (arith, lowest-port)) ∙ q)
-      go (no k) = rw (has-without-other m lowest p (omega arith) lowest-port hp k, get_or-set_other l lowest p x 0 k)
-
-  -- A port that is still left to count has what it had at first, in l₀, at most.
-  pub lowest-uncounted : (l l₀ : List ℕ) (m₀ : ℕ) → changed (λ n. n + 1) m l lowest ≡ changed (λ n. n + 1) m₀ l₀ lowest → get_or l lowest 0 ≤ get_or l₀ lowest 0
-  lowest-uncounted l l₀ m₀ e = go (has m₀ lowest) (rw has-lowest at e)
-    where
-      go : (t : Bool) → get_or l lowest 0 + 1 ≡ cond t (get_or l₀ lowest 0 + 1) (get_or l₀ lowest 0) → get_or l lowest 0 ≤ get_or l₀ lowest 0
-      go true q = omega arith
-      go false q = omega arith
-
--- No port is left.
-pub changed-none : (h : ℕ → ℕ) (m : ℕ) (l : List ℕ) → m ≡ 0 → (p : ℕ) → p < 5 → get_or l p 0 ≡ changed h m l p
-changed-none h m l z p hp = rw (z, has-zero p hp)
-
 -- ---- five numbers
+
+-- Those of the ports in a mask are changed, and the others stay.
+pub each-changed : (h : ℕ → ℕ) (m : ℕ) (old new : List ℕ) → length new ≡ 5 → ((p x : ℕ) → p < 5 → has m p ≡ true → get_or new p x ≡ h (get_or old p x))
+    → ((p x : ℕ) → p < 5 → has m p ≡ false → get_or new p x ≡ get_or old p x) → EachPort (changed h m old) new
+each-changed h m old new five on off = record { five = five; each = λ p l. go p l (has m p) refl }
+  where
+    go : (p : ℕ) → p < 5 → (t : Bool) → has m p ≡ t → get_or new p 0 ≡ changed h m old p
+    go p l true e = rw e (on p 0 l e)
+    go p l false e = rw e (off p 0 l e)
 
 -- Numbers that agree.
 pub each-as : {f g : ℕ → ℕ} {l : List ℕ} → EachPort f l → ((p : ℕ) → p < 5 → f p ≡ g p) → EachPort g l

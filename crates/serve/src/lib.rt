@@ -3,8 +3,8 @@
 
 mod send;
 
-ghost use Rattle.std.specs.Prelude.{◌≡◌, [], ◌∷◌, ℕ, ◌<◌, length};
-ghost use Rattle.rules.specs.Areas.{memory_length, outgoing_length, per_port, grant_code};
+ghost use Rattle.std.specs.Prelude.{◌≡◌, [], ◌∷◌, ℕ, ◌<◌};
+ghost use Rattle.rules.specs.Areas.{per_port, grant_code};
 ghost use Rattle.rules.specs.Board.{board8};
 ghost use Rattle.rules.specs.Tick.{grant, grant_bytes, served, withdrawals, withdrawn, returned, advanced};
 ghost use Rattle.passes.specs.Room.{Room};
@@ -13,7 +13,7 @@ ghost use Rattle.passes.specs.Sends.{Winner, sent_by};
 ghost use Rattle.choose.specs.Grants.{grant_at};
 
 use choose::Grant;
-use layout::{ClockReading, Field, Router};
+use layout::{ClockReading, Field, Memory, Packets, Router, State};
 
 // What a tick answers of steps 2 to 4, port by port: who had it, and how many packets were withdrawn.
 #[derive(Clone, Copy)]
@@ -23,25 +23,23 @@ pub struct Served {
 }
 
 // Step 6.
-fn advance(state: &mut [u8])
+fn advance(state: &mut State)
     ensures { state.new ≡ advanced board8 state.old }
 {
     let t = ClockReading(layout::get(state, Field::Clock));
-    let u = clock::later(t, 1);
-    layout::put(state, Field::Clock, u.0);
+    layout::put(state, Field::Clock, clock::later(t, 1).0);
 }
 
 // Steps 3 to 6, where the ports have these grants, whoever chose them; the slots from `end` on are empty.
 pub fn carry_out(
-    state: &mut [u8],
-    memory: &[u8],
-    outgoing: &mut [u8],
+    state: &mut State,
+    memory: &Memory,
+    outgoing: &mut Packets,
     grants: [Grant; Router::PORTS],
     end: usize,
 ) -> Served
-    requires lengths { (length state.old ≡ board8.state_length) × (length memory.now ≡ memory_length) × (length outgoing.old ≡ outgoing_length) }
     requires slots { Room board8 state.old × EmptyFrom board8 state.old end }
-    requires grants { (length grants ≡ 5) × ((p : ℕ) → p < 5 → Winner board8 state.old p (grant_at grants p)) }
+    requires grants { (p : ℕ) → p < 5 → Winner board8 state.old p (grant_at grants p) }
     ensures ports { result.codes ≡ per_port (λ p. grant_code (grant_at grants p) ∷ []) }
     ensures packets { outgoing.new ≡ per_port (λ p. grant_bytes memory.now (grant_at grants p)) }
     ensures withdrawn { result.counts ≡ per_port (λ p. withdrawals board8 (sent_by board8 (grant_at grants) 5 state.old) p ∷ []) }
@@ -55,9 +53,13 @@ pub fn carry_out(
 }
 
 // Steps 2 to 6.
-pub fn serve_and_settle(state: &mut [u8], memory: &[u8], outgoing: &mut [u8], waiting: u8) -> Served
-    requires lengths { (length state.old ≡ board8.state_length) × (length memory.now ≡ memory_length) × (length outgoing.old ≡ outgoing_length) }
-    requires room { Room board8 state.old }
+pub fn serve_and_settle(
+    state: &mut State,
+    memory: &Memory,
+    outgoing: &mut Packets,
+    waiting: u8,
+) -> Served
+    requires { Room board8 state.old }
     ensures ports { result.codes ≡ per_port (λ p. grant_code (grant board8 (served board8 p waiting state.old) waiting p) ∷ []) }
     ensures packets { outgoing.new ≡ per_port (λ p. grant_bytes memory.now (grant board8 (served board8 p waiting state.old) waiting p)) }
     ensures withdrawn { result.counts ≡ per_port (λ p. withdrawals board8 (served board8 5 waiting state.old) p ∷ []) }

@@ -14,9 +14,9 @@ abbrev pub withdrawn : List ℕ → ℕ → List ℕ
 withdrawn counts p = byte counts p / 256 ∷ byte counts p % 256 ∷ []
 
 -- Port p's two bytes stored.
-pub counts-next : (counts part : List ℕ) (p h l : ℕ) → length part ≡ 10 → p < 5 → h ≡ byte counts p / 256 → l ≡ byte counts p % 256
-    → set (set (filled 2 (withdrawn counts) part p) (2 * p) h) (2 * p + 1) l ≡ filled 2 (withdrawn counts) part (p + 1)
-counts-next counts part p h l e m eh el = rw (eh, el, add-one (2 * p), add-one p) (filled_next 2 (withdrawn counts) part p (λ q i. refl) (omega arith))
+pub counts-next : (counts part : List ℕ) (p : ℕ) → length part ≡ 10 → p < 5
+    → set (set (filled 2 (withdrawn counts) part p) (2 * p) (byte counts p / 256)) (2 * p + 1) (byte counts p % 256) ≡ filled 2 (withdrawn counts) part (p + 1)
+counts-next counts part p e m = rw (add-one (2 * p), add-one p) (filled_next 2 (withdrawn counts) part p (λ q i. refl) (omega arith))
 
 -- The numbers of a list, one after the other, are its beginning.
 ports_below-bytes : (l : List ℕ) (n : ℕ) → n ≤ length l → ports_below (λ p. byte l p ∷ []) n ≡ take n l

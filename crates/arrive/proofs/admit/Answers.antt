@@ -1,26 +1,43 @@
--- `arrive::admit` meets its contract: the case of the enum decides the test of `admitted`, and a stored packet has an idle address to take. Assumes nothing.
-use mathlib.Core.Bool.{false}
-use mathlib.Core.List.{[], ◌∷◌}
-use mathlib.Core.Path.{◌≡◌, refl, sym, ap, ◌∙◌}
+-- `arrive::admit` meets its contract: the answer is that of the refusal, and only what no question refuses is placed. Assumes nothing.
+use mathlib.Core.Bool.{cond}
+use mathlib.Core.Path.{◌≡◌, refl, ◌∙◌}
 use lib.Dec.{eqb}
-use denote.Enum.Declared.{tag_of}
-use types.Run.{OneOf, miss}
-use Rattle.rules.specs.Board.{board8}
-use Rattle.passes.proofs.Arrivals.{stored-has-free}
-use Rattle.arrive.specs.declared.Arrival.{Arrival}
-use Rattle.arrive.specs.declared.Arrival.TheVariants.{Absent, Stored, Closed, Late, Full}
-use Rattle.arrive.specs.Numbers.{number}
-use Rattle.arrive.specs.contracts.Arrival.{the_type}
-use borrow.Author.Rules.{rules}
+use Prim.Native.Nat.{ℕ}
+use Rattle.std.specs.Prelude.{Option, Some, Result, Ok, Err, OnOk, OnErr}
+use Rattle.rules.specs.Areas.{Store, arrival_answer}
+use Rattle.rules.specs.Tick.{arrival}
+use Rattle.arrive.specs.declared.Refused.{Refused}
+use Rattle.arrive.specs.declared.Refused.TheVariants.{Closed, Late, Full}
+use Rattle.arrive.specs.Numbers.{refusal_of, number}
 use Rattle.arrive.proofs.admit.Goals as goal
 
--- Any case of the enum but the second is not stored.
-not-stored : (a : Arrival) → OneOf (0 ∷ 2 ∷ 3 ∷ 4 ∷ []) (tag_of the_type a) → eqb (number a) 1 ≡ false
-not-stored Absent h = refl
-not-stored Stored h = absurd (miss (0 ∷ 2 ∷ 3 ∷ 4 ∷ []) 1 tt h)
-not-stored Closed h = refl
-not-stored Late h = refl
-not-stored Full h = refl
+-- A packet is answered by 1, or its refusal.
+answered : (met : Result (Unit {0}) Refused) → number (Some met) ≡ arrival_answer (refusal_of met)
+unfolding arrival_answer
+answered (Ok x) = refl
+answered (Err Closed) = refl
+answered (Err Late) = refl
+answered (Err Full) = refl
 
-pub place-requires : goal.place-requires
-place-requires c = (search rules, search rules, search rules, stored-has-free board8 _ _ _ _ (sym c.meets-a.ensures ∙ ap number c.in-Stored.is))
+-- It is stored if it is answered by 1.
+stored : (met : Result (Unit {0}) Refused) {x : Store} (placed r : Store) → OnOk met (x ≡ placed) → OnErr met (x ≡ r) → x ≡ cond (eqb (number (Some met)) 1) placed r
+stored (Ok x) _ _ p r = p
+stored (Err Closed) _ _ p r = r
+stored (Err Late) _ _ p r = r
+stored (Err Full) _ _ p r = r
+
+pub returns-then-has_port-clause-number : goal.returns-then-has_port-clause-number
+unfolding arrival
+returns-then-has_port-clause-number c = rw (← c.has_port.ensures, c.if-has_port.true, ← c.take.ensures.number) (answered c.take.result)
+
+pub returns-then-has_port-clause-after : goal.returns-then-has_port-clause-after
+unfolding arrival
+returns-then-has_port-clause-after c = rw (← c.has_port.ensures, c.if-has_port.true, ← c.take.ensures.number, ← answered c.take.result) (stored c.take.result _ _ c.take.ensures.ok c.take.ensures.err)
+
+pub returns-else-has_port-clause-number : goal.returns-else-has_port-clause-number
+unfolding arrival
+returns-else-has_port-clause-number c = rw (← c.has_port.ensures, c.if-has_port.false)
+
+pub returns-else-has_port-clause-after : goal.returns-else-has_port-clause-after
+unfolding arrival
+returns-else-has_port-clause-after c = rw (← c.has_port.ensures, c.if-has_port.false)

@@ -1,4 +1,4 @@
--- `arrive::arrive` meets its contract. The loop's invariant: the store and the answers are those of the ports below p. The measure is the ports left. Assumes nothing.
+-- `arrive::arrive` meets its contract. The loop's invariant: the store and the answers are those of the ports below p. Assumes nothing.
 use mathlib.Core.Path.{◌∙◌}
 use Rattle.passes.proofs.Arrivals.{arrived-none, arrived-next}
 use Rattle.passes.proofs.Packets.{part-packet}
@@ -8,5 +8,4 @@ pub loop-p-init : goal.loop-p-init
 loop-p-init c = arrived-none _ _ _ _
 
 pub loop-p-preserved : goal.loop-p-preserved
-loop-p-preserved c = arrived-next _ _ _ _ c.loop-p.invariant c.loop-p-test.true (part-packet c.args.arrivals.now c.loop-p.p) (c.number.ensures ∙ c.admit-met.ensures.number) c.admit-met.ensures.after
-    c.admit-met.auto.state c.admit-met.auto.memory c.admit-met.ensures.room
+loop-p-preserved c = arrived-next _ _ _ _ c.loop-p.invariant c.loop-p-test.true ((rw c.unwrap-packet.ensures at c.as_array.ensures.cases).same ∙ part-packet c.args.arrivals.now c.loop-p.p) (c.number.ensures ∙ c.admit.ensures.number) c.admit.ensures.after c.admit.ensures.room

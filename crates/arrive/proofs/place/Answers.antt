@@ -18,4 +18,4 @@ pub returns-clause-room : goal.returns-clause-room
 returns-clause-room c = let r = store c.args.state.now c.args.memory.now in
     let e = stores-placed board8 r c.args.packet.now (sym (stamp-one c.args.packet.now)) c.get.ensures c.later-deadline.ensures c.get-mask.ensures c.get-2.ensures c.free_count-n.ensures c.get-3.ensures
     c.store_packet.ensures c.put_free.ensures c.put.ensures c.put-2.ensures c.put-3.ensures in
-    placed-leaves-room board8 lawful8 r c.args.packet.now c.requires.0 c.requires.3 c.free_count-n.ensures c.get-3.ensures (search rules) e
+    placed-leaves-room board8 lawful8 r c.args.packet.now c.told-state c.requires c.free_count-n.ensures c.get-3.ensures (search rules) e

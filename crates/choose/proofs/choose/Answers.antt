@@ -18,9 +18,9 @@ returns-then-best-ge-NONE c =
 pub returns-then-best-bound : goal.returns-then-best-bound
 unfolding bits
 returns-then-best-bound c =
-    grants-early board8 _ _ _ _ c.requires.1 _ c.has_port-waits.ensures _ c.get-horizon.ensures _ c.bound.ensures (omega arith) (omega arith) (omega arith)
+    grants-early board8 _ _ _ _ c.requires.1 _ c.has_port-waits.ensures _ (c.from.ensures ∙ c.get-horizon.ensures) _ c.bound.ensures (omega arith) (omega arith) (omega arith)
 
 pub returns : goal.returns
 unfolding bits
 returns c =
-    c.unsent-2.ensures ∙ grants-unsent board8 _ _ _ _ c.requires.1 _ c.has_port-waits.ensures _ c.get-horizon.ensures _ c.bound.ensures (omega arith) (omega arith) (omega arith)
+    c.unsent-2.ensures ∙ grants-unsent board8 _ _ _ _ c.requires.1 _ c.has_port-waits.ensures _ (c.from.ensures ∙ c.get-horizon.ensures) _ c.bound.ensures (omega arith) (omega arith) (omega arith)

@@ -8,6 +8,6 @@ pub returns-then-x-lt-HALF : goal.returns-then-x-lt-HALF
 unfolding half bits
 returns-then-x-lt-HALF c = rw (offset-at-least 1 _ _ _ c.since-x.ensures, lt-ltb _ 128 c.if-x-lt-HALF.true)
 
-pub returns : goal.returns
+pub returns-else-x-lt-HALF : goal.returns-else-x-lt-HALF
 unfolding half bits
-returns c = rw (offset-at-least 1 _ _ _ c.since-x.ensures, le-ltb _ _ c.if-x-lt-HALF.false)
+returns-else-x-lt-HALF c = rw (offset-at-least 1 _ _ _ c.since-x.ensures, le-ltb _ 128 c.if-x-lt-HALF.false, c.from.ensures, c.from-else-x-lt-HALF.ensures)

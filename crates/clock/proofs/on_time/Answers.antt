@@ -8,6 +8,6 @@ pub returns-then-x-eq0 : goal.returns-then-x-eq0
 unfolding half bits
 returns-then-x-eq0 c = rw (offset-at-most-0 1 _ _ _ c.ahead-x.ensures.difference, eq-eqb _ _ c.if-x-eq0.true)
 
-pub returns : goal.returns
+pub returns-else-x-eq0 : goal.returns-else-x-eq0
 unfolding half bits
-returns c = rw (offset-at-most-0 1 _ _ _ c.ahead-x.ensures.difference, ne_eqb _ _ c.if-x-eq0.false)
+returns-else-x-eq0 c = rw (offset-at-most-0 1 _ _ _ c.ahead-x.ensures.difference, ne_eqb _ _ c.if-x-eq0.false)

@@ -14,16 +14,16 @@ use Prim.Native.Nat.{ℕ}
 use Rattle.serve.proofs.carry_out.Goals as goal
 
 pub serve-codes-requires-clause-packets : goal.serve-codes-requires-clause-packets
-serve-codes-requires-clause-packets c = (c.requires.grants.0, λ q h. length-won board8 _ _ q c.requires.lengths.1 _ (c.requires.grants.1 q h))
+serve-codes-requires-clause-packets c = λ q h. length-won board8 _ _ q c.told-memory _ (c.requires.grants q h)
 
 pub settle-counts-requires-clause-sent : goal.settle-counts-requires-clause-sent
 settle-counts-requires-clause-sent c = let g = grant_at c.args.grants in
-    λ i. rw c.serve-codes.ensures.masks (sends-le board8 lawful8 _ g c.requires.grants.1 5 (omega arith) i)
+    λ i. rw c.serve-codes.ensures.masks (sends-le board8 lawful8 _ g c.requires.grants 5 (omega arith) i)
 
 pub returns-clause-withdrawn : goal.returns-clause-withdrawn
 returns-clause-withdrawn c = let g = grant_at c.args.grants in
-    counts-withdrawals board8 lawful8 c.args.state.now c.requires.lengths.0 g c.requires.grants.1 _ (rw c.serve-codes.ensures.masks at c.settle-counts.ensures.counts)
+    counts-withdrawals board8 lawful8 c.args.state.now c.told-state g c.requires.grants _ (rw c.serve-codes.ensures.masks at c.settle-counts.ensures.counts)
 
 pub returns-clause-after : goal.returns-clause-after
 returns-clause-after c = let g = grant_at c.args.grants in
-    c.advance.ensures ∙ ap (advanced board8) (c.settle-counts.ensures.after ∙ ap (λ (l : List ℕ). settled board8 c.args.state.now l 256) c.serve-codes.ensures.masks ∙ settled-steps board8 lawful8 c.args.state.now c.requires.lengths.0 g c.requires.grants.1 c.requires.slots.0)
+    c.advance.ensures ∙ ap (advanced board8) (c.settle-counts.ensures.after ∙ ap (λ (l : List ℕ). settled board8 c.args.state.now l 256) c.serve-codes.ensures.masks ∙ settled-steps board8 lawful8 c.args.state.now c.told-state g c.requires.grants c.requires.slots.0)

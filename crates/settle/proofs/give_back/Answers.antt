@@ -6,4 +6,4 @@ use native.Mathlib.Omega.{arith}
 use Rattle.settle.proofs.give_back.Goals as goal
 
 pub overflow_add-n : goal.overflow_add-n
-overflow_add-n c = omega (arith, free-emptied board8 lawful8 _ _ c.requires.0 (omega arith) _ c.put.ensures _ c.free_count-n.ensures, c.requires.1)
+overflow_add-n c = omega (arith, free-emptied board8 lawful8 _ _ c.told-state (omega arith) _ c.put.ensures _ c.free_count-n.ensures, c.requires)

@@ -1,5 +1,4 @@
--- `settle::settle` meets its contract. The loop's invariant: state and counts are those of the pass below `i`; the empty slots past `end` change neither.
--- The measure is what is left of `end`. Assumes nothing.
+-- `settle::settle` meets its contract. The loop's invariant: state and counts are those of the pass below `i`; the empty slots past `end` change neither. Assumes nothing.
 use Rattle.passes.specs.Settling.{settled, missed}
 use Rattle.passes.proofs.EmptySlots.{to_end}
 use Rattle.passes.proofs.MaskPorts.{each-as}
@@ -17,26 +16,24 @@ use Rattle.settle.proofs.settle.Goals as goal
 
 pub loop-i-init : goal.loop-i-init
 unfolding settled count
-loop-i-init c = (search rules, refl, refl, record { five = refl; each = λ p h. get_or-replicate 5 p 0 0 h })
+loop-i-init c = (refl, record { five = refl; each = λ p h. get_or-replicate 5 p 0 0 h })
 
 pub settle_slot-requires-clause-counts : goal.settle_slot-requires-clause-counts
-settle_slot-requires-clause-counts c = (c.loop-i.invariant.3.five, missed-few board8 lawful8 c.args.state.now c.args.sent.now c.loop-i.i (omega arith) _ c.loop-i.invariant.3)
+settle_slot-requires-clause-counts c = missed-few board8 lawful8 c.args.state.now c.args.sent.now c.loop-i.i (omega arith) _ c.loop-i.invariant.1
 
 pub settle_slot-requires-clause-state : goal.settle_slot-requires-clause-state
-settle_slot-requires-clause-state c = rw c.loop-i.invariant.2 (length-settled board8 lawful8 c.args.state.now c.args.sent.now c.requires.slots.0 c.requires.room c.loop-i.i (omega arith), settled-room board8 lawful8 c.args.state.now c.args.sent.now c.requires.slots.0 c.requires.room c.loop-i.i (omega arith), rw (settled-keeps-mask board8 lawful8 c.args.state.now c.args.sent.now c.requires.slots.0 c.requires.room c.loop-i.i (omega arith)) (c.requires.sent c.loop-i.i))
+settle_slot-requires-clause-state c = rw c.loop-i.invariant.0 (settled-room board8 lawful8 c.args.state.now c.args.sent.now c.told-state c.requires.room c.loop-i.i (omega arith), rw (settled-keeps-mask board8 lawful8 c.args.state.now c.args.sent.now c.told-state c.requires.room c.loop-i.i (omega arith)) (c.requires.sent c.loop-i.i))
 
 pub loop-i-preserved : goal.loop-i-preserved
 loop-i-preserved c = (
-  search rules,
-  c.settle_slot.auto.state ∙ c.loop-i.invariant.1,
-  rw (add-one c.loop-i.i) (settled-turn board8 lawful8 c.args.state.now c.args.sent.now c.requires.slots.0 c.requires.room c.loop-i.i (omega arith) _ refl _ c.get.ensures _ _ c.loop-i.invariant.2 c.settle_slot.ensures.after),
-  rw (add-one c.loop-i.i) (missed-turn board8 lawful8 c.args.state.now c.args.sent.now c.requires.slots.0 c.requires.room c.loop-i.i (omega arith) _ refl _ c.get.ensures _ _ _ c.loop-i.invariant.2 c.loop-i.invariant.3 c.settle_slot.ensures.counts),
+  rw (add-one c.loop-i.i) (settled-turn board8 lawful8 c.args.state.now c.args.sent.now c.told-state c.requires.room c.loop-i.i (omega arith) _ refl _ c.get.ensures _ _ c.loop-i.invariant.0 c.settle_slot.ensures.after),
+  rw (add-one c.loop-i.i) (missed-turn board8 lawful8 c.args.state.now c.args.sent.now c.told-state c.requires.room c.loop-i.i (omega arith) _ refl _ c.get.ensures _ _ _ c.loop-i.invariant.0 c.loop-i.invariant.1 c.settle_slot.ensures.counts),
 )
 
 pub returns-clause-after : goal.returns-clause-after
 returns-clause-after c = let e : c.loop-i.i ≡ c.args.end = omega arith in
-    c.loop-i.invariant.2 ∙ ap (settled board8 c.args.state.now c.args.sent.now) e ∙ to_end board8 c.args.state.now (settled board8 c.args.state.now c.args.sent.now) (settled-empty board8 lawful8 c.args.state.now c.args.sent.now c.requires.slots.0 c.requires.room) _ c.requires.slots.1
+    c.loop-i.invariant.0 ∙ ap (settled board8 c.args.state.now c.args.sent.now) e ∙ to_end board8 c.args.state.now (settled board8 c.args.state.now c.args.sent.now) (settled-empty board8 lawful8 c.args.state.now c.args.sent.now c.told-state c.requires.room) _ c.requires.slots
 
 pub returns-clause-counts : goal.returns-clause-counts
 returns-clause-counts c = let e : c.loop-i.i ≡ c.args.end = omega arith in
-    each-as c.loop-i.invariant.3 (λ p h. rw e (to_end board8 c.args.state.now (λ (i : ℕ). missed board8 c.args.state.now c.args.sent.now i p) (missed-empty board8 lawful8 c.args.state.now c.args.sent.now p h) _ c.requires.slots.1))
+    each-as c.loop-i.invariant.1 (λ p h. rw e (to_end board8 c.args.state.now (λ (i : ℕ). missed board8 c.args.state.now c.args.sent.now i p) (missed-empty board8 lawful8 c.args.state.now c.args.sent.now p h) _ c.requires.slots))

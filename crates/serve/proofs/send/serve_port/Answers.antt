@@ -27,7 +27,7 @@ returns-in-Nobody-clause-after c = let n = sends-nothing c.args.memory.now c.arg
 
 pub returns-in-Nobody-clause-packet : goal.returns-in-Nobody-clause-packet
 returns-in-Nobody-clause-packet c = let n = sends-nothing c.args.memory.now c.args.sent.now c.args.port c.args.g c.in-Nobody.is in
-    rw n.0 c.send_nothing.ensures
+    rw n.0 c.copy_in.ensures
 
 pub returns-in-OnTime-clause-after : goal.returns-in-OnTime-clause-after
 returns-in-OnTime-clause-after c = let n = sends-slot c.args.memory.now c.args.sent.now c.args.port c.args.g c.in-OnTime.s c.in-OnTime.is in
@@ -35,4 +35,4 @@ returns-in-OnTime-clause-after c = let n = sends-slot c.args.memory.now c.args.s
 
 pub returns-in-OnTime-clause-packet : goal.returns-in-OnTime-clause-packet
 returns-in-OnTime-clause-packet c = let n = sends-slot c.args.memory.now c.args.sent.now c.args.port c.args.g c.in-OnTime.s c.in-OnTime.is in
-    rw n.0 c.send.ensures
+    rw (n.0, ← c.packet.ensures) c.copy_in-in-OnTime.ensures
