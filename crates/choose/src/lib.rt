@@ -125,7 +125,7 @@ fn choose(state: &[u8], waiting: u8, port: u8, best: u32) -> Grant
     if best < EARLY {
         return Grant::OnTime(slot);
     }
-    let waits = layout::has_port(waiting, port);
+    let waits = layout::has_port(waiting, layout::Port { index: port });
     if NONE <= best {
         return unsent(waits);
     }
