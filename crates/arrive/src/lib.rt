@@ -128,7 +128,7 @@ fn admit(state: &mut State, memory: &mut Memory, packet: &Packet, arriving: u8, 
     ensures after { store state.new memory.new ≡ admitted board8 (store state.old memory.old) arriving port.index packet.now }
     ensures room { Room board8 state.old → Room board8 state.new }
 {
-    if layout::has_port(arriving, layout::Port { index: port }) {
+    if layout::has_port(arriving, port) {
         Some(take(state, memory, packet))
     } else {
         None

@@ -127,7 +127,7 @@ fn choose(state: &[u8], waiting: u8, port: Port, best: u32) -> Grant
     if best < EARLY {
         return Grant::OnTime(slot);
     }
-    let waits = layout::has_port(waiting, layout::Port { index: port });
+    let waits = layout::has_port(waiting, port);
     if NONE <= best {
         return unsent(waits);
     }
