@@ -1,3 +1,4 @@
+pub mod Numbers
 pub mod Masks
 pub mod Taking
 pub mod Joined

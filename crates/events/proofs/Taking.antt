@@ -33,12 +33,11 @@ module _ (σ : Tape) (k : ℕ) (r out ans : List ℕ) (lo : length out ≡ outgo
       cases true e = refl
       cases false e = rw e
 
--- A fresh router and arrivals that are cleared are the tape's start.
-pub start-fresh : (s t : Store) (n : ℕ) (a x : List ℕ) → length s.state ≡ board8.state_length → length s.memory ≡ memory_length → length a ≡ arrivals_length
+-- Where the areas have the router's lengths its fresh store is the tape's, and the call is accepted.
+pub start-fresh : (s t : Store) (n : ℕ) → length s.state ≡ board8.state_length → length s.memory ≡ memory_length
     → ◌≡◌ {A = Outcome Store} (record { reply = number_reply n; after = t }) (make_fresh board8 s 0)
-    → x ≡ sets a 0 (replicate arrivals_length 0)
-    → ◌≡◌ {A = Tape} (record { store = t; pending = 0; records = replicate 5 0; arrivals = x }) start
-unfolding start make_fresh full
-start-fresh s t n a x hs hm ha e h =
-    let f : t ≡ fresh board8 0 = ap (λ (o : Outcome Store). o.after) (rw (hs, hm) at e) in
-    rw (f, h, sets-eq (replicate arrivals_length 0) a 0 (omega arith), drop_of_length-le a {i = arrivals_length} (omega arith))
+    → (n ≡ 0) × (t ≡ fresh board8 0)
+unfolding make_fresh full
+start-fresh s t n hs hm e =
+    let f = rw (hs, hm) at e in
+    (ap (λ (o : Outcome Store). o.reply.number) f, ap (λ (o : Outcome Store). o.after) f)

@@ -1,21 +1,27 @@
 -- The code's values as values of the definitions. Assumes nothing.
-use Rattle.std.specs.Prelude.{ℕ, List}
-use Rattle.events.specs.declared.Event as Code
-use Rattle.events.specs.declared.Event.TheVariants.{Nothing, Refused, Ticked}
-use Rattle.events.specs.declared.Pending.{Pending}
-use Rattle.events.specs.declared.Taken as TakenCode
+use Rattle.std.specs.Prelude.{ℕ, List, Option, Some, None, Result, Ok, Err}
+use Rattle.layout.specs.Numbers as Calls
+use Rattle.layout.specs.declared.ClockReading.{ClockReading}
+use Rattle.records.specs.Records as Records
+use Rattle.events.specs.declared.Refused.{Refused}
+use Rattle.events.specs.declared.Refused.TheVariants.{Record, Call}
+use Rattle.events.specs.declared.Tape as Code
 use Rattle.events.specs.Tape.{Tape, Event, nothing, refused, ticked, Taken}
 
--- A tape whose router and arrivals are in the lent areas.
-abbrev pub tape_of : List ℕ → List ℕ → List ℕ → Pending → Tape
-tape_of state memory arrivals w = record { store = record { state = state; memory = memory }; pending = w.mask; records = w.records; arrivals = arrivals }
+-- A tape whose router and arrivals are those of the code's.
+abbrev pub tape_of : {S M : ℕ} → Code.Tape S M → Tape
+tape_of t = record { store = record { state = t.state; memory = t.memory }; pending = t.pending.mask; records = t.pending.records; arrivals = t.arrivals }
 
--- The event of record k, whose outgoing and answer bytes are in the lent areas.
-abbrev pub event_of : ℕ → List ℕ → Code.Event → List ℕ → List ℕ → Event
-event_of k records Nothing out ans = nothing
-event_of k records (Refused q) out ans = refused k q
-event_of k records (Ticked t) out ans = ticked records t out ans
+-- The number of each refusal.
+abbrev pub refused_number : Refused → ℕ
+refused_number (Record refusal) = Records.number_of refusal
+refused_number (Call refusal) = Calls.number_of refusal
 
-abbrev pub taken_of : ℕ → List ℕ → List ℕ → List ℕ → List ℕ → List ℕ → TakenCode.Taken → Taken
-taken_of k state memory arrivals out ans t =
-    record { tape = tape_of state memory arrivals t.pending; event = event_of k t.pending.records t.event out ans }
+-- The event of record k, with the outgoing and answer bytes of its reply.
+abbrev pub event_of : ℕ → List ℕ → Result (Option ClockReading) Refused → List ℕ → List ℕ → Event
+event_of k records (Ok None) out ans = nothing
+event_of k records (Ok (Some clock)) out ans = ticked records clock.0 out ans
+event_of k records (Err why) out ans = refused k (refused_number why)
+
+abbrev pub taken_of : {S M : ℕ} → ℕ → Code.Tape S M → Result (Option ClockReading) Refused → List ℕ → List ℕ → Taken
+taken_of k t event out ans = record { tape = tape_of t; event = event_of k t.pending.records event out ans }

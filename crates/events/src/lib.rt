@@ -1,171 +1,163 @@
 // A tape between its records, and what a record comes to.
 #![tactic(auto)]
 
-ghost use Rattle.std.specs.Prelude.{◌≡◌, List, false, ℕ, ◌+◌, ◌^◌, ◌≤◌, length};
-ghost use Rattle.rules.specs.Areas.{Store, memory_length, arrivals_length, outgoing_length, answers_length, has, byte};
-ghost use Rattle.rules.specs.Board.{clock as clock_field, board8};
+ghost use Rattle.std.specs.Prelude.{◌≡◌, List, false, ℕ, ◌+◌, ◌^◌, ◌<◌, length};
+ghost use Rattle.rules.specs.Areas.{has, byte};
 ghost use Rattle.records.specs.Records.{record_length};
-ghost use Rattle.events.specs.declared.Pending.{Pending};
-ghost use Rattle.events.specs.Tape as Tape;
-ghost use Rattle.events.specs.Values.{tape_of, event_of, taken_of};
+ghost use Rattle.events.specs.Tape as Rules;
+ghost use Rattle.events.specs.declared.Refused.TheVariants.{Record, Call};
+ghost use Rattle.events.specs.Values.{tape_of, event_of, taken_of, refused_number};
 
-use layout::{Field, Router};
+use layout::{Answers, ClockReading, Field, Packets, Port, Router};
+use records::Kind;
 
-// The ports with an arrival for the coming tick, and the number of the record that brought each.
+// The ports with an arrival for the coming tick, and the number of the record that brought each. The numbers outlive the mask, which a tick clears: what it refuses is told of them.
 #[derive(Clone, Copy)]
 pub struct Pending {
     pub mask: u8,
     pub records: [u64; Router::PORTS],
 }
 
-// What a record comes to; an accepted tick has the clock before it.
-#[derive(Clone, Copy)]
-pub enum Event {
-    Nothing,
-    Refused(u8),
-    Ticked(u8),
+// Why a record is refused: by its own questions, or by those of the router's call.
+#[derive(Clone, Copy, Debug, PartialEq, Eq)]
+pub enum Refused {
+    Record(records::Refusal),
+    Call(layout::Refusal),
 }
 
+impl From<records::Refusal> for Refused {
+    ghost from_gives = { λ why refused. refused ≡ Record why };
+
+    fn from(why: records::Refusal) -> Refused {
+        Refused::Record(why)
+    }
+}
+
+impl From<layout::Refusal> for Refused {
+    ghost from_gives = { λ why refused. refused ≡ Call why };
+
+    fn from(why: layout::Refusal) -> Refused {
+        Refused::Call(why)
+    }
+}
+
+impl From<Refused> for u8 {
+    ghost from_gives = { λ refused number. number ≡ refused_number refused };
+
+    fn from(refused: Refused) -> u8 {
+        match refused {
+            Refused::Record(refusal) => refusal.into(),
+            Refused::Call(refusal) => refusal.into(),
+        }
+    }
+}
+
+// What a record comes to: a refusal, nothing to tell, or an accepted tick with the clock before it.
+pub type Event = Result<Option<ClockReading>, Refused>;
+
+// What an accepted tick sends, and its answers.
 #[derive(Clone, Copy)]
-pub struct Taken {
+pub struct Reply {
+    pub outgoing: Packets,
+    pub answers: Answers,
+}
+
+// A tape between its records: the router's areas, of any lengths, since the router itself refuses those of others, and the arrivals that wait for the coming tick.
+#[derive(Drop)]
+pub struct Tape<const S: usize, const M: usize> {
+    pub state: [u8; S],
+    pub memory: [u8; M],
+    pub arrivals: Packets,
     pub pending: Pending,
-    pub event: Event,
 }
 
-// A tape's beginning: a fresh router at clock 0, and no arrival that waits.
-pub fn begin(state: &mut [u8], memory: &mut [u8], arrivals: &mut [u8]) -> Pending
-    requires { (length state.old ≡ board8.state_length) × (length memory.old ≡ memory_length) × (length arrivals.old ≡ arrivals_length) }
-    ensures { tape_of state.new memory.new arrivals.new result ≡ Tape.start }
-{
-    let none = [0u8; Router::ARRIVALS];
-    router::router_fresh(state, memory, 0);
-    layout::copy_in(&none, arrivals, 0);
-    Pending {
-        mask: 0,
-        records: [0; Router::PORTS],
-    }
-}
+// With areas of the router's own lengths.
+pub type RouterTape = Tape<{ Router::STATE }, { Router::MEMORY }>;
 
-fn take_control(state: &mut [u8], memory: &[u8], bytes: &[u8]) -> Event
-    ensures { (arrivals out ans : List ℕ) (k : ℕ) (w : Pending) → ◌≡◌ {A = Tape.Taken}
-        (record { tape = tape_of state.new memory.now arrivals w; event = event_of k w.records result out ans })
-        (Tape.take_control (tape_of state.old memory.now arrivals w) k bytes.now) }
-{
-    let register = layout::byte(bytes, 1);
-    let value = layout::byte(bytes, 2);
-    let number = router::router_control(state, memory, register, value);
-    if number != 0 {
-        return Event::Refused(number);
+impl RouterTape {
+    // A tape's beginning: a fresh router at clock 0, and no arrival that waits.
+    pub fn begin() -> RouterTape
+        ensures { tape_of result ≡ Rules.start }
+    {
+        let mut state = [0u8; Router::STATE];
+        let mut memory = [0u8; Router::MEMORY];
+        router::router_fresh(&mut state, &mut memory, 0).unwrap();
+        Tape {
+            state,
+            memory,
+            arrivals: [0; Router::ARRIVALS],
+            pending: Pending {
+                mask: 0,
+                records: [0; Router::PORTS],
+            },
+        }
     }
-    Event::Nothing
 }
 
 // The mask with a port that it has not yet.
-fn with_port(mask: u8, port: u8) -> u8
-    requires { (port ≤ 4) × (has mask port ≡ false) }
-    ensures { result ≡ mask + 2 ^ port }
+fn with_port(mask: u8, port: Port) -> u8
+    requires { has mask port.index ≡ false }
+    ensures { result ≡ mask + 2 ^ port.index }
 {
-    mask + (1 << port)
+    mask + (1 << port.index)
 }
 
-fn take_arrival(arrivals: &mut [u8], pending: Pending, number: u64, bytes: &[u8]) -> Pending
-    requires { (length arrivals.old ≡ arrivals_length) × (length bytes.now ≡ record_length) × (byte bytes.now 1 ≤ 4) × (has pending.mask (byte bytes.now 1) ≡ false) }
-    ensures { (state memory : List ℕ) → ◌≡◌ {A = Tape.Taken}
-        (record { tape = tape_of state memory arrivals.new result; event = Tape.nothing })
-        (Tape.take_arrival (tape_of state memory arrivals.old pending) number bytes.now) }
-{
-    let port = bytes[1];
-    let mask = with_port(pending.mask, port);
-    let place = port as usize;
-    let mut records = pending.records;
-    records[place] = number;
-    layout::copy_in(&bytes[4..], arrivals, Router::PACKET * place);
-    Pending { mask, records }
-}
-
-// What a tick's number and the clock before it make of the tape: a refused tick keeps the arrivals that wait.
-fn after_tick(pending: Pending, clock: u8, number: u8) -> Taken
-    ensures { (before after : Store) (arrivals out ans : List ℕ) (k : ℕ) → clock ≡ board8.get before.state clock_field →
-        taken_of k after.state after.memory arrivals out ans result
-        ≡ Tape.after_tick (tape_of before.state before.memory arrivals pending) k (record { reply = record { number = number; outgoing = out; answers = ans }; after = after }) }
-{
-    if number != 0 {
-        return Taken {
-            pending,
-            event: Event::Refused(number),
-        };
+impl<const S: usize, const M: usize> Tape<S, M> {
+    #[tactic(auto, unfolding(crate::specs::Tape::take_control))]
+    fn take_control(&mut self, bytes: &[u8]) -> Event
+        ensures { (out ans : List ℕ) (k : ℕ) → taken_of k self.new result out ans ≡ Rules.take_control (tape_of self.old) k bytes.now }
+    {
+        let register = layout::byte(bytes, 1);
+        let value = layout::byte(bytes, 2);
+        router::router_control(&mut self.state, &self.memory, register, value)?;
+        Ok(None)
     }
-    let records = pending.records;
-    let pending = Pending { mask: 0, records };
-    Taken {
-        pending,
-        event: Event::Ticked(clock),
-    }
-}
 
-// A tick; an accepted one leaves the outgoing and the answer bytes in the lent areas.
-fn take_tick(
-    state: &mut [u8],
-    memory: &mut [u8],
-    arrivals: &[u8],
-    pending: Pending,
-    bytes: &[u8],
-    outgoing: &mut [u8],
-    answers: &mut [u8],
-) -> Taken
-    requires { (length outgoing.old ≡ outgoing_length) × (length answers.old ≡ answers_length) }
-    ensures { (k : ℕ) → taken_of k state.new memory.new arrivals.now outgoing.new answers.new result
-        ≡ Tape.take_tick (tape_of state.old memory.old arrivals.now pending) k bytes.now }
-{
-    let clock = layout::get(state, Field::Clock);
-    let waiting = layout::byte(bytes, 1);
-    let number = router::router_tick(
-        state,
-        memory,
-        arrivals,
-        outgoing,
-        answers,
-        pending.mask,
-        waiting,
-    );
-    after_tick(pending, clock, number)
-}
-
-// One record: its questions, then what its kind does. A tick's outgoing and answer bytes are left in the lent areas.
-pub fn take_record(
-    state: &mut [u8],
-    memory: &mut [u8],
-    arrivals: &mut [u8],
-    pending: Pending,
-    number: u64,
-    bytes: &[u8],
-    outgoing: &mut [u8],
-    answers: &mut [u8],
-) -> Taken
-    requires { (length arrivals.old ≡ arrivals_length) × (length outgoing.old ≡ outgoing_length) × (length answers.old ≡ answers_length) }
-    ensures { taken_of number state.new memory.new arrivals.new outgoing.new answers.new result
-        ≡ Tape.take_record (tape_of state.old memory.old arrivals.old pending) number bytes.now }
-{
-    let refusal = records::refusal(pending.mask, bytes);
-    if refusal != 0 {
-        return Taken {
-            pending,
-            event: Event::Refused(refusal),
-        };
+    #[tactic(auto, unfolding(crate::specs::Tape::take_arrival))]
+    fn take_arrival(&mut self, number: u64, bytes: &[u8])
+        requires whole { length bytes.now ≡ record_length }
+        requires port { byte bytes.now 1 < 5 }
+        requires free { has self.old.pending.mask (byte bytes.now 1) ≡ false }
+        ensures { ◌≡◌ {A = Rules.Taken} (record { tape = tape_of self.new; event = Rules.nothing }) (Rules.take_arrival (tape_of self.old) number bytes.now) }
+    {
+        let port = Port { index: bytes[1] };
+        let place = port.index as usize;
+        self.pending.mask = with_port(self.pending.mask, port);
+        self.pending.records[place] = number;
+        layout::copy_in(&bytes[4..], &mut self.arrivals, Router::PACKET * place);
     }
-    let kind = layout::byte(bytes, 0);
-    match kind {
-        records::CONTROL => {
-            let event = take_control(state, memory, bytes);
-            Taken { pending, event }
-        }
-        records::ARRIVAL => {
-            let pending = take_arrival(arrivals, pending, number, bytes);
-            Taken {
-                pending,
-                event: Event::Nothing,
+
+    // A tick; an accepted one leaves its reply in the lent one, a refused one keeps the arrivals that wait.
+    fn take_tick(&mut self, bytes: &[u8], reply: &mut Reply) -> Event
+        ensures { (k : ℕ) → taken_of k self.new result reply.new.outgoing reply.new.answers ≡ Rules.take_tick (tape_of self.old) k bytes.now }
+    {
+        let clock = layout::get(&self.state, Field::Clock);
+        let waiting = layout::byte(bytes, 1);
+        router::router_tick(
+            &mut self.state,
+            &mut self.memory,
+            &self.arrivals,
+            &mut reply.outgoing,
+            &mut reply.answers,
+            self.pending.mask,
+            waiting,
+        )?;
+        self.pending.mask = 0;
+        Ok(Some(ClockReading(clock)))
+    }
+
+    // One record: its questions, then what its kind does. An accepted tick leaves its reply in the lent one.
+    #[tactic(auto, unfolding(crate::specs::Tape::take_record))]
+    pub fn take_record(&mut self, number: u64, bytes: &[u8], reply: &mut Reply) -> Event
+        ensures { taken_of number self.new result reply.new.outgoing reply.new.answers ≡ Rules.take_record (tape_of self.old) number bytes.now }
+    {
+        match records::questions(self.pending.mask, bytes)? {
+            Kind::Control => self.take_control(bytes),
+            Kind::Arrival => {
+                self.take_arrival(number, bytes);
+                Ok(None)
             }
+            Kind::Tick => self.take_tick(bytes, reply),
         }
-        _ => take_tick(state, memory, arrivals, pending, bytes, outgoing, answers),
     }
 }

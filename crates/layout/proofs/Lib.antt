@@ -1,2 +1,3 @@
 mod OneByte
 pub mod FreshState
+pub mod Parts

@@ -1,12 +1,12 @@
 // The layout of what the router is lent: its sizes, the numbers of refusals, the fields of the state, a port's bit, and a copy.
 #![tactic(auto)]
 
-ghost use Rattle.std.specs.Prelude.{◌≡◌, ◌+◌, ◌*◌, ◌≤◌, ◌<◌, length, get_or, set, replicate};
+ghost use Rattle.std.specs.Prelude.{◌≡◌, ◌+◌, ◌*◌, ◌/◌, ◌%◌, ◌^◌, ◌≤◌, ◌<◌, ◌↔◌, IsSome, IfSome, length, get_or, set, replicate};
 ghost use Rattle.std.proofs.lemmas.List.Edits.{sets};
 ghost use Rattle.rules.specs.Areas.{has};
 ghost use Rattle.rules.specs.Board.{Time, Deadline, free, board8, table8};
 ghost use Rattle.layout.specs.Fields.{field_of};
-ghost use Rattle.layout.specs.Numbers.{number_of};
+ghost use Rattle.layout.specs.Numbers.{number_of, answer_of};
 ghost use Rattle.layout.specs.Slots.{empty};
 
 // One byte each, and none may serve as another.
@@ -19,9 +19,45 @@ pub struct ConnectionId(pub u8);
 #[derive(Clone, Copy)]
 pub struct ClockReading(pub u8);
 
+// A port, 0 to 4.
+#[derive(Clone, Copy, Debug, PartialEq, Eq)]
+pub struct Port {
+    pub index: u8,
+    ghost in_range: { index < 5 },
+}
+
+impl Port {
+    // How many there are, for a loop over their indices.
+    pub const COUNT: u8 = Router::PORTS as u8;
+
+    // The port of that index, if there is one.
+    pub fn new(index: u8) -> Option<Port>
+        ensures found { IsSome result ↔ (index < 5) }
+        ensures port { IfSome result (λ port. port.index ≡ index) }
+    {
+        if index < Port::COUNT {
+            Some(Port { index })
+        } else {
+            None
+        }
+    }
+}
+
 // A slot's three bytes: logical arrival time, deadline, mask of ports still to serve.
 #[derive(Clone, Copy)]
 pub struct Slot(pub [u8; 3]);
+
+// The areas that a board lends, a packet, and the answers of a tick.
+pub type State = [u8; Router::STATE];
+
+pub type Memory = [u8; Router::MEMORY];
+
+// The arrivals of five ports, or what they send.
+pub type Packets = [u8; Router::ARRIVALS];
+
+pub type Answers = [u8; Router::ANSWERS];
+
+pub type Packet = [u8; Router::PACKET];
 
 // A router before it is copied to the lent area: the bytes of its state, and its slots.
 #[derive(Clone, Copy)]
@@ -76,20 +112,17 @@ impl Router {
         let mut bytes = [0u8; Router::STATE];
         bytes[0] = clock.0;
         bytes[10] = 1;
-        let mut i = 0;
-        while i < Router::SLOTS {
+        for i in 0..Router::SLOTS {
             bytes[12 + i] = (255 - i) as u8;
-            i += 1;
         }
         let slots = [Router::EMPTY; Router::SLOTS];
         Router { bytes, slots }
     }
 }
 
-// What a call answers: accepted, or the question that stopped it.
-#[derive(Clone, Copy)]
+// The question that stops a call.
+#[derive(Clone, Copy, Debug, PartialEq, Eq)]
 pub enum Refusal {
-    Accepted,
     Lengths,
     Settings,
     Stack,
@@ -100,12 +133,11 @@ pub enum Refusal {
     Queues,
 }
 
-impl Refusal {
-    pub fn number(self) -> u8
-        ensures { result ≡ number_of self }
-    {
-        match self {
-            Refusal::Accepted => 0,
+impl From<Refusal> for u8 {
+    ghost from_gives = { λ refusal number. number ≡ number_of refusal };
+
+    fn from(refusal: Refusal) -> u8 {
+        match refusal {
             Refusal::Lengths => 1,
             Refusal::Settings => 13,
             Refusal::Stack => 14,
@@ -115,6 +147,16 @@ impl Refusal {
             Refusal::Value => 5,
             Refusal::Queues => 21,
         }
+    }
+}
+
+// What a call answers in C: 0, or the number of its refusal.
+pub fn number(answer: Result<(), Refusal>) -> u8
+    ensures { result ≡ answer_of answer }
+{
+    match answer {
+        Ok(()) => 0,
+        Err(refusal) => refusal.into(),
     }
 }
 
@@ -163,7 +205,7 @@ pub fn place(f: Field) -> usize
 pub fn byte(area: &[u8], at: usize) -> u8
     ensures { result ≡ get_or area.now at 0 }
 {
-    if at < area.len() { area[at] } else { 0 }
+    area.get(at).copied().unwrap_or(0)
 }
 
 // Stores a byte at a place, nothing past the end.
@@ -175,27 +217,37 @@ pub fn put_byte(area: &mut [u8], at: usize, b: u8)
     }
 }
 
+// The two bytes from a place on as a number, high first.
+pub fn pair(area: &[u8], at: usize) -> u16
+    requires { at < 2 ^ 32 }
+    ensures { result ≡ get_or area.now at 0 * 256 + get_or area.now (at + 1) 0 }
+{
+    u16::from_be_bytes([byte(area, at), byte(area, at + 1)])
+}
+
+// Stores a number in the two bytes from a place on, high first.
+pub fn put_pair(area: &mut [u8], at: usize, n: u16)
+    requires { at < 2 ^ 32 }
+    ensures { area.new ≡ set (set area.old at (n / 256)) (at + 1) (n % 256) }
+{
+    let [high, low] = n.to_be_bytes();
+    put_byte(area, at, high);
+    put_byte(area, at + 1, low);
+}
+
 // Copies all of src into dst from a place on.
 pub fn copy_in(src: &[u8], dst: &mut [u8], at: usize)
     requires { at + length src.now ≤ length dst.old }
     ensures { dst.new ≡ sets dst.old at src.now }
 {
-    let mut j = 0;
-    while j < src.len() {
-        dst[at + j] = src[j];
-        j += 1;
-    }
+    dst[at..at + src.len()].copy_from_slice(src);
 }
 
 // Stores zero in every byte.
 pub fn clear(area: &mut [u8])
     ensures { area.new ≡ replicate (length area.old) 0 }
 {
-    let mut i = 0;
-    while i < area.len() {
-        area[i] = 0;
-        i += 1;
-    }
+    area.fill(0);
 }
 
 pub fn get(state: &[u8], f: Field) -> u8
@@ -228,46 +280,26 @@ pub fn times(state: &[u8], s: SlotAddress) -> SlotTimes
     }
 }
 
-// A field whose place the state has, without a test of its length.
-pub fn read(state: &[u8], f: Field) -> u8
-    requires { (table8 (field_of f)).0 < length state.now }
-    ensures { result ≡ board8.get state.now (field_of f) }
-{
-    let at = place(f);
-    state[at]
-}
-
 pub fn put(state: &mut [u8], f: Field, b: u8)
     ensures { state.new ≡ board8.put state.old (field_of f) b }
 {
     put_byte(state, place(f), b);
 }
 
-// A byte as two.
-pub fn wide(b: u8) -> u16
-    ensures { (result ≡ b) × (result < 256) }
-{
-    b as u16
-}
-
-pub fn free_count(state: &[u8]) -> u16
-    requires { length state.now ≡ board8.state_length }
+pub fn free_count(state: &State) -> u16
     ensures { result ≡ board8.get state.now free }
 {
-    wide(state[10]) * 256 + wide(state[11])
+    pair(state, 10)
 }
 
-pub fn put_free(state: &mut [u8], n: u16)
-    requires { length state.old ≡ board8.state_length }
+pub fn put_free(state: &mut State, n: u16)
     ensures { state.new ≡ board8.put state.old free n }
 {
-    state[10] = (n / 256) as u8;
-    state[11] = (n % 256) as u8;
+    put_pair(state, 10, n);
 }
 
-pub fn has_port(mask: u8, port: u8) -> bool
-    requires { port < 5 }
-    ensures { result ≡ has mask port }
+pub fn has_port(mask: u8, port: Port) -> bool
+    ensures { result ≡ has mask port.index }
 {
-    (mask >> port) % 2 == 1
+    (mask >> port.index) % 2 == 1
 }

@@ -9,9 +9,8 @@ use lib.Seq.{append_snoc, take_all, take_at, drop_at}
 use lib.Dec.{eqb}
 use borrow.Author.Tests.{ne_eqb, eqb-true, eqb-false}
 use Rattle.events.specs.Tape.{Event, nothing, refused, ticked}
-use Rattle.pages.specs.declared.Page.{Page}
 use Rattle.pages.specs.Pages.{Tick, ticks_of, number_line, tick_row, empty_row, withdrawn_by, total_of, total_line, page_of, next_number, pages_from, page_count, pages_of, ended, printed_pages}
-use Rattle.pages.specs.Printing.{unbegun, Paged, opening, closed, with_tick, with_event, ending, in_order}
+use Rattle.pages.specs.Printing.{Page, unbegun, Paged, opening, closed, with_tick, with_event, ending, in_order}
 use Rattle.pages.specs.Claims.{PagesAsTicksCome}
 use Rattle.pages.proofs.Lines.{ended-append}
 

@@ -1,5 +1,4 @@
 pub mod Lines
-pub mod Closing
 pub mod AsTicksCome
 pub mod Withdrawn
 pub mod Showing

@@ -1,8 +1,13 @@
 -- Pages printed as the ticks come: the text that goes out with each event, and what is left for the tape's end. Assumes nothing.
 use Rattle.std.specs.Prelude.{ℕ, ◌+◌, ◌-◌, cond, List, [], ◌∷◌, ◌++◌, replicate, eqb}
 use Rattle.events.specs.Tape.{Event, nothing, refused, ticked}
-use Rattle.pages.specs.declared.Page.{Page}
 use Rattle.pages.specs.Pages.{Tick, page_ticks, number_line, tick_row, empty_row, withdrawn_by, total_line, next_number, ended}
+
+-- The page at hand: its number, how many ticks stand on it, and how many packets these withdrew.
+pub record Page : Type 0 where
+  pub number : ℕ
+  pub ticks : ℕ
+  pub total : ℕ
 
 -- A page that is not begun has no tick yet, and none of its lines is out.
 abbrev pub unbegun : ℕ → Page

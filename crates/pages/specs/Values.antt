@@ -1,15 +1,12 @@
--- What the code's functions promise of the page at hand. Assumes nothing.
-use Rattle.std.specs.Prelude.{ℕ, ◌*◌, ◌≤◌, ◌<◌, ◌≡◌, List}
-use Rattle.text.specs.Put.{Put}
-use Rattle.pages.specs.declared.Page.{Page}
-use Rattle.pages.specs.declared.Paged as Code
-use Rattle.pages.specs.Printing.{Paged}
+-- What the code keeps of the page at hand, and what its functions promise of it. Assumes nothing.
+use Rattle.std.specs.Prelude.{ℕ, ◌*◌, ◌≤◌, ◌<◌, ◌≡◌, List, ◌++◌}
+use Rattle.pages.specs.Printing.{Page, Paged}
 
 -- A page that is not full; each of its ticks withdrew what ten bytes can say.
 abbrev pub Unfilled : Page → Type 0
 Unfilled p = (p.number < 10000) × (p.ticks < 62) × (p.total ≤ 327675 * p.ticks)
 
--- The text is in the area, and the page at hand is that after it.
-pub record PutPaged (o : Paged) (at : ℕ) (before after : List ℕ) (r : Code.Paged) : Type 0 where
-  pub page : r.page ≡ o.page
-  pub text : Put o.text at before after r.at
+-- The page at hand and what was appended to the text are those of o.
+pub record PutPaged (o : Paged) (p : Page) (before after : List ℕ) : Type 0 where
+  pub page : p ≡ o.page
+  pub text : after ≡ before ++ o.text

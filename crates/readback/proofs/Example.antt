@@ -15,7 +15,7 @@ use Rattle.cases.proofs.Computing.{computing}
 use Rattle.cases.proofs.Proper.{proper}
 use Rattle.cases.proofs.Reached.{after-calls}
 use Rattle.records.specs.Records as Records
-use Rattle.records.specs.Records.{record_refusal, kind_refusal, unused_refusal, blank}
+use Rattle.records.specs.Records.{record_refusal, kind_refusal, unused_refusal}
 use Rattle.events.specs.Tape.{Tape, start, Event, nothing, refused, ticked, Taken, take_record, take_control, take_arrival, take_tick, after, events_of}
 use Rattle.events.proofs.Joined.{after-joined}
 use Rattle.text.specs.Lines as Text
@@ -73,21 +73,21 @@ leads σ e = record { tape = σ; event = e }
 -- An accepted control write.
 control-event : (s : Store) (k q v : ℕ) (a b : List ℕ) → (byte_step board8 s (control q v)).reply ≡ number_reply 0
     → take_record (tape s 0 a b) k (control_record q v) ≡ leads (tape (byte_step board8 s (control q v)).after 0 a b) nothing
-unfolding take_record record_refusal kind_refusal unused_refusal blank take_control byte_step
+unfolding take_record record_refusal kind_refusal unused_refusal take_control byte_step
 control-event s k q v a b e = rw (ap (λ (o : Reply). o.number) e)
 
 -- An accepted tick, with the arrivals of the mask m.
 tick-event : (s : Store) (k m t : ℕ) (a : List ℕ) (o : Reply) → (byte_step board8 s (ticking m)).reply ≡ o → o.number ≡ 0 → board8.get s.state clock ≡ t
     → take_record (tape s m a area) k (tick_record 0) ≡ leads (tape (byte_step board8 s (ticking m)).after 0 a area) (ticked a t o.outgoing o.answers)
-unfolding take_record record_refusal kind_refusal unused_refusal blank take_tick byte_step
+unfolding take_record record_refusal kind_refusal unused_refusal take_tick byte_step
 tick-event s k m t a o e n c = rw (ap (λ (o : Reply). o.number) e, n, ap (λ (o : Reply). o.outgoing) e, ap (λ (o : Reply). o.answers) e, c)
 
 arrival-event : (s : Store) → take_record (tape s 0 (zeros 5) (zeros 100)) 5 (arrival_record 0 5 1) ≡ leads (tape s 1 (5 ∷ zeros 4) area) nothing
-unfolding take_record record_refusal kind_refusal Records.arrival_refusal blank take_arrival has
+unfolding take_record record_refusal kind_refusal Records.arrival_refusal take_arrival has
 arrival-event s = refl
 
 port-9-event : (s : Store) (a b : List ℕ) → take_record (tape s 0 a b) 8 (arrival_record 9 0 0) ≡ leads (tape s 0 a b) (refused 8 11)
-unfolding take_record record_refusal kind_refusal Records.arrival_refusal blank
+unfolding take_record record_refusal kind_refusal Records.arrival_refusal
 port-9-event s a b = refl
 
 -- ---- one after the other

@@ -1,15 +1,11 @@
--- Parts of an input: up to its end, and the records of two inputs that are joined. Assumes nothing.
-use Prim.Native.Nat.{ℕ, suc, ◌+◌, ◌-◌, ◌*◌, ◌≤◌}
+-- The records of two inputs that are joined. Assumes nothing.
+use Prim.Native.Nat.{ℕ, suc, ◌+◌, ◌*◌, ◌≤◌}
 use mathlib.Core.Path.{◌≡◌}
 use mathlib.Core.List.{List, ◌++◌}
 use native.Mathlib.Omega.{arith}
 use lib.ListN.{length, take, drop, length-drop}
-use lib.Seq.{take_all, take-append-le, drop-append-le, drop-append-add}
+use lib.Seq.{take-append-le, drop-append-le, drop-append-add}
 use Rattle.records.specs.Records.{record_length, record_at}
-
--- A part up to the end is all that follows.
-pub take-to-end : (l : List ℕ) (n : ℕ) → take (length l - n) (drop n l) ≡ drop n l
-take-to-end l n = take_all (length l - n) (drop n l) (rw (length-drop n l) (omega arith))
 
 module _ (a b : List ℕ) where
   pub record-of-first : (i : ℕ) → record_length * suc i ≤ length a → record_at (a ++ b) i ≡ record_at a i

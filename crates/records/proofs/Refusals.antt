@@ -10,16 +10,14 @@ use lib.Dec.{leb, eqb}
 use borrow.Author.Tests.{eqb-true, leb-true}
 use Rattle.rules.specs.Areas.{byte, has}
 use Rattle.rules.proofs.Booleans.{and_right}
-use Rattle.records.specs.Records.{record_length, arrival_kind, blank, blank_part, arrival_refusal, kind_refusal, record_refusal}
+use Rattle.records.specs.Records.{record_length, arrival_kind, blank_part, arrival_refusal, kind_refusal, record_refusal}
 
 -- The part between two places is blank: where it is empty, and by its first byte.
 module _ (r : List ℕ) (i to : ℕ) where
   pub blank-empty : to ≤ i → blank_part r i to ≡ true
-  unfolding blank
   blank-empty h = let e : to - i ≡ 0 = omega arith in rw e
 
   pub blank-first : i < to → to ≤ length r → blank_part r i to ≡ (eqb (byte r i) 0 && blank_part r (suc i) to)
-  unfolding blank
   blank-first h l =
       let e : to - i ≡ suc (to - suc i) = omega arith in
       let k : i < length r = omega arith in

@@ -1,8 +1,11 @@
 -- A tape's records, and their questions 9 to 12 (document 01, "Tape program" and "Per tape record"). Assumes nothing.
-use Rattle.std.specs.Prelude.{ℕ, ◌+◌, ◌-◌, ◌*◌, ◌/◌, Bool, true, cond, ◌&&◌, List, [], ◌∷◌, length, take, drop, leb, eqb}
+use Rattle.std.specs.Prelude.{ℕ, ◌+◌, ◌-◌, ◌*◌, ◌/◌, Bool, cond, ◌&&◌, List, length, take, drop, leb, eqb, ◌==◌, ◌≡◌, ◌≢◌, Result, Ok, Err, MatchResult}
+use Rattle.std.specs.List.{list_all}
 use Rattle.rules.specs.Areas.{byte, has}
-use Rattle.records.specs.declared.Answer.{Answer}
-use Rattle.records.specs.declared.Answer.TheVariants.{Accepted, Short, UnknownKind, Unused, Occupied}
+use Rattle.records.specs.declared.Kind.{Kind}
+use Rattle.records.specs.declared.Kind.TheVariants.{Control, Arrival, Tick}
+use Rattle.records.specs.declared.Refusal.{Refusal}
+use Rattle.records.specs.declared.Refusal.TheVariants.{Short, UnknownKind, Unused, Occupied}
 
 -- Records of 24 bytes, no header: how many an input has, and its i-th from 0 on. A rest of fewer bytes is the last.
 abbrev pub record_length : ℕ
@@ -25,9 +28,8 @@ abbrev pub tick_kind : ℕ
 tick_kind = 84
 
 -- Every byte is zero, of a list and of the part between two places.
-unfoldable pub blank : List ℕ → Bool
-blank [] = true
-blank (x ∷ l) = eqb x 0 && blank l
+abbrev pub blank : List ℕ → Bool
+blank l = list_all (λ b. b == 0) l
 
 abbrev pub blank_part : List ℕ → ℕ → ℕ → Bool
 blank_part r from to = blank (take (to - from) (drop from r))
@@ -51,10 +53,23 @@ kind_refusal pending r =
 unfoldable pub record_refusal : ℕ → List ℕ → ℕ
 record_refusal pending r = cond (eqb (length r) record_length) (kind_refusal pending r) 9
 
--- The number of each answer.
-abbrev pub number_of : Answer → ℕ
-number_of Accepted = 0
+-- The number of each refusal, and of an answer: 0 where nothing is refused.
+abbrev pub number_of : Refusal → ℕ
 number_of Short = 9
 number_of UnknownKind = 10
 number_of Unused = 11
 number_of Occupied = 12
+
+abbrev pub answer_of : {A : Type 0} → Result A Refusal → ℕ
+answer_of (Ok x) = 0
+answer_of (Err refusal) = number_of refusal
+
+-- The byte of each kind.
+abbrev pub byte_of : Kind → ℕ
+byte_of Control = control_kind
+byte_of Arrival = arrival_kind
+byte_of Tick = tick_kind
+
+-- The kind of a byte, or 10 where no kind has it.
+abbrev pub Decodes : ℕ → Result Kind Refusal → Type 0
+Decodes b r = MatchResult r (λ kind. byte_of kind ≡ b) (λ refusal. (refusal ≡ UnknownKind) × (b ≢ control_kind) × (b ≢ arrival_kind) × (b ≢ tick_kind))

@@ -1,117 +1,109 @@
-// A tape's records: where each ends, their kinds, and questions 9 to 12.
+// A tape's records: their length, their kinds, and questions 9 to 12.
 #![tactic(auto)]
 
-ghost use Rattle.std.specs.Prelude.{◌≡◌, ◌-◌, ◌≤◌, length, take, drop};
-ghost use Rattle.records.specs.Records.{record_length, blank_part, unused_refusal, arrival_refusal, record_refusal, number_of};
+ghost use Rattle.std.specs.Prelude.{◌≡◌, ◌≤◌, IfOk};
+ghost use Rattle.rules.specs.Areas.{byte};
+ghost use Rattle.records.specs.Records.{record_length, blank, unused_refusal, arrival_refusal, record_refusal, number_of, answer_of, byte_of, Decodes};
+
+use layout::Port;
 
 // The bytes of a record.
 pub const RECORD: usize = 24;
 
-// The kinds of a record.
-pub const CONTROL: u8 = 0x43;
-
-pub const ARRIVAL: u8 = 0x41;
-
-pub const TICK: u8 = 0x54;
-
-// Where the record ends that starts at a place of an input.
-pub fn record_end(input: &[u8], start: usize) -> usize
-    requires { start ≤ length input.now }
-    ensures { (start ≤ result) × (result ≤ length input.now) × (take (result - start) (drop start input.now) ≡ take record_length (drop start input.now)) }
-{
-    if RECORD <= input.len() - start {
-        return start + RECORD;
-    }
-    input.len()
+// What a record is, by its byte 0.
+#[derive(Clone, Copy, Debug, PartialEq, Eq, Hash)]
+pub enum Kind {
+    Control,
+    Arrival,
+    Tick,
 }
 
-// What the questions of a record answer.
-#[derive(Clone, Copy)]
-pub enum Answer {
-    Accepted,
+impl TryFrom<u8> for Kind {
+    type Error = Refusal;
+
+    ghost try_from_gives = { Decodes };
+
+    fn try_from(byte: u8) -> Result<Self, Refusal> {
+        match byte {
+            0x43 => Ok(Kind::Control),
+            0x41 => Ok(Kind::Arrival),
+            0x54 => Ok(Kind::Tick),
+            _ => Err(Refusal::UnknownKind),
+        }
+    }
+}
+
+// Why the questions of a record refuse it.
+#[derive(Clone, Copy, Debug, PartialEq, Eq, Hash)]
+pub enum Refusal {
     Short,
     UnknownKind,
     Unused,
     Occupied,
 }
 
-impl Answer {
-    pub fn number(self) -> u8
-        ensures { result ≡ number_of self }
-    {
-        match self {
-            Answer::Accepted => 0,
-            Answer::Short => 9,
-            Answer::UnknownKind => 10,
-            Answer::Unused => 11,
-            Answer::Occupied => 12,
+impl From<Refusal> for u8 {
+    ghost from_gives = { λ refusal n. n ≡ number_of refusal };
+
+    fn from(refusal: Refusal) -> u8 {
+        match refusal {
+            Refusal::Short => 9,
+            Refusal::UnknownKind => 10,
+            Refusal::Unused => 11,
+            Refusal::Occupied => 12,
         }
     }
 }
 
-// Every byte between two places is zero.
-fn is_blank(bytes: &[u8], from: usize, to: usize) -> bool
-    requires { to ≤ length bytes.now }
-    ensures { result ≡ blank_part bytes.now from to }
+// Every byte is zero.
+fn is_blank(bytes: &[u8]) -> bool
+    ensures { result ≡ blank bytes.now }
 {
-    let mut i = from;
-    while i < to {
-        if bytes[i] != 0 {
-            return false;
-        }
-        i += 1;
-    }
-    true
+    bytes.iter().all(|byte| *byte == 0)
 }
 
 // Are unused bytes zero, those from a place on?
-fn unused_questions(bytes: &[u8], from: usize) -> Answer
-    requires { length bytes.now ≡ record_length }
-    ensures { number_of result ≡ unused_refusal bytes.now from }
+#[tactic(auto, unfolding(crate::specs::Records::unused_refusal))]
+fn unused_questions(bytes: &[u8; RECORD], from: usize) -> Result<(), Refusal>
+    requires { from ≤ record_length }
+    ensures { answer_of result ≡ unused_refusal bytes.now from }
 {
-    if is_blank(bytes, from, RECORD) {
-        return Answer::Accepted;
+    if is_blank(&bytes[from..]) {
+        Ok(())
+    } else {
+        Err(Refusal::Unused)
     }
-    Answer::Unused
 }
 
 // Of an arrival: are unused bytes zero and is the port at most 4, is that port without a packet for the coming tick?
-fn arrival_questions(pending: u8, bytes: &[u8]) -> Answer
-    requires { length bytes.now ≡ record_length }
-    ensures { number_of result ≡ arrival_refusal pending bytes.now }
+#[tactic(auto, unfolding(crate::specs::Records::arrival_refusal))]
+fn arrival_questions(pending: u8, bytes: &[u8; RECORD]) -> Result<(), Refusal>
+    ensures { answer_of result ≡ arrival_refusal pending bytes.now }
 {
-    if !is_blank(bytes, 2, 4) {
-        return Answer::Unused;
+    if !is_blank(&bytes[2..4]) {
+        return Err(Refusal::Unused);
     }
-    let port = bytes[1];
-    if 4 < port {
-        return Answer::Unused;
-    }
+    let port = Port::new(bytes[1]).ok_or(Refusal::Unused)?;
     if layout::has_port(pending, port) {
-        return Answer::Occupied;
+        return Err(Refusal::Occupied);
     }
-    Answer::Accepted
+    Ok(())
 }
 
-// Questions 9 to 12 of a record, when the ports of a mask have a packet for the coming tick already.
-pub fn questions(pending: u8, bytes: &[u8]) -> Answer
-    ensures { number_of result ≡ record_refusal pending bytes.now }
+// Questions 9 to 12 of a record, when the ports of a mask have a packet for the coming tick already: its kind, or why it is refused.
+#[tactic(auto, unfolding(crate::specs::Records::record_refusal, crate::specs::Records::kind_refusal))]
+pub fn questions(pending: u8, bytes: &[u8]) -> Result<Kind, Refusal>
+    ensures answered { answer_of result ≡ record_refusal pending bytes.now }
+    ensures kind { IfOk result (λ kind. byte_of kind ≡ byte bytes.now 0) }
 {
-    if bytes.len() != RECORD {
-        return Answer::Short;
-    }
-    let kind = bytes[0];
-    match kind {
-        CONTROL => unused_questions(bytes, 3),
-        ARRIVAL => arrival_questions(pending, bytes),
-        TICK => unused_questions(bytes, 2),
-        _ => Answer::UnknownKind,
-    }
-}
-
-// The number of a record's refusal by questions 9 to 12, 0 for none.
-pub fn refusal(pending: u8, bytes: &[u8]) -> u8
-    ensures { result ≡ record_refusal pending bytes.now }
-{
-    questions(pending, bytes).number()
+    let Some(bytes) = bytes.as_array::<RECORD>() else {
+        return Err(Refusal::Short);
+    };
+    let kind = Kind::try_from(bytes[0])?;
+    let answer = match kind {
+        Kind::Control => unused_questions(bytes, 3),
+        Kind::Arrival => arrival_questions(pending, bytes),
+        Kind::Tick => unused_questions(bytes, 2),
+    };
+    answer.map(|()| kind)
 }

@@ -1,15 +1,12 @@
 -- What goes out with events one after the other, and with one record more; and that in each style it is all that is printed of them. Assumes nothing.
 use Prim.Native.Nat.{ℕ, suc, ◌+◌}
-use mathlib.Core.Path.{◌≡◌, refl}
+use mathlib.Core.Path.{◌≡◌, refl, ◌∙◌}
 use mathlib.Core.List.{List, [], ◌∷◌, ◌++◌, append-nil, append_assoc}
 use native.Mathlib.Numerals.{add-one}
 use native.Mathlib.Omega.{arith}
 use Rattle.records.specs.Records.{record_at}
 use Rattle.events.specs.Tape.{Tape, Event, Taken, take_record, after, events_of}
-use Rattle.text.proofs.Put.{put_then}
-use Rattle.pages.specs.declared.Page.{Page}
-use Rattle.pages.specs.declared.Paged as Code
-use Rattle.pages.specs.Printing.{unbegun, Paged, in_order}
+use Rattle.pages.specs.Printing.{Page, unbegun, Paged, in_order}
 use Rattle.pages.specs.Claims.{PagesAsTicksCome}
 use Rattle.pages.specs.Values.{PutPaged}
 use Rattle.pages.proofs.AsTicksCome.{pages_as_ticks_come}
@@ -42,16 +39,17 @@ module _ (σ : Tape) (k : ℕ) (b : List ℕ) (i : ℕ) (τ : Tape) (so_far : τ
       let s : k + suc i ≡ k + i + 1 = omega arith in
       rw (add-one i, ← so_far, s) e
 
-  pub text-then : (style : Style) (p : Page) (q r : Code.Paged) {l l' l'' : List ℕ} {at : ℕ}
-      → PutPaged (print_events style p (after σ k b i).events) at l l' q → PutPaged (print_event style q.page next.event) q.at l' l'' r
-      → PutPaged (print_events style p (after σ k b (i + 1)).events) at l l'' r
+  pub text-then : (style : Style) (p q r : Page) {l l' l'' : List ℕ}
+      → PutPaged (print_events style p (after σ k b i).events) q l l' → PutPaged (print_event style q next.event) r l' l''
+      → PutPaged (print_events style p (after σ k b (i + 1)).events) r l l''
   unfolding after in_order
-  text-then style p q r x y =
+  text-then style p q r {l} x y =
       let s : k + suc i ≡ k + i + 1 = omega arith in
       let z = rw x.page at y in
       let o = print_events style p (after σ k b i).events in
-      rw (add-one i, ← so_far, s, print-append style p (after σ k b i).events (next.event ∷ []), append-nil (print_event style o.page next.event).text)
-      (record { page = z.page; text = put_then x.text z.text })
+      let e = print_event style o.page next.event in
+      rw (add-one i, ← so_far, s, print-append style p (after σ k b i).events (next.event ∷ []), append-nil e.text)
+      (record { page = z.page; text = z.text ∙ rw x.text (append_assoc l o.text e.text) })
 
 -- ---- all that is printed
 

@@ -3,8 +3,7 @@ use Rattle.std.specs.Prelude.{ℕ, ◌+◌, ◌*◌, ◌/◌, ◌≡◌, Bool, t
 use mathlib.Core.List.{List, [], ◌∷◌, ◌++◌, flatten}
 use Rattle.records.specs.Records.{record_length, records_in}
 use Rattle.events.specs.Tape.{Tape, start, after}
-use Rattle.pages.specs.declared.Page.{Page}
-use Rattle.pages.specs.Printing.{unbegun}
+use Rattle.pages.specs.Printing.{Page, unbegun}
 use Rattle.tapes.specs.declared.printing.Style.{Style}
 use Rattle.tapes.specs.Printed.{printed, print_events, print_end}
 
@@ -17,7 +16,7 @@ pub record Place : Type 0 where
 abbrev pub begin : Place
 begin = record { tape = start; number = 0; page = unbegun 1 }
 
--- The records of a block, as `stepping::run` takes them: the place after them, and their text.
+-- The records of a block, as `Place::run` takes them: the place after them, and their text.
 pub record Turned : Type 0 where
   pub place : Place
   pub text : List ℕ

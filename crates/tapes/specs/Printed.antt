@@ -3,9 +3,8 @@ use Rattle.std.specs.Prelude.{ℕ, ◌+◌, cond, List, [], ◌∷◌, ◌++◌,
 use Rattle.rules.specs.Areas.{byte, per_port}
 use Rattle.events.specs.Tape.{Event, nothing, refused, ticked, events_of}
 use Rattle.text.specs.Lines.{refused_line, tick_line}
-use Rattle.pages.specs.declared.Page.{Page}
 use Rattle.pages.specs.Pages.{printed_pages}
-use Rattle.pages.specs.Printing.{Paged, with_event, in_order, ending}
+use Rattle.pages.specs.Printing.{Page, Paged, with_event, in_order, ending}
 use Rattle.tapes.specs.declared.printing.Style.{Style}
 use Rattle.tapes.specs.declared.printing.Style.TheVariants.{Lines, Pages}
 

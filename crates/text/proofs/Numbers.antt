@@ -1,27 +1,21 @@
--- Numbers in decimal digits: how many there are, that the last may be stored first, and that they read back. Assumes nothing.
+-- Numbers in decimal digits: how many there are, and that they read back. Assumes nothing.
 use Prim.Native.Nat.{ℕ, zero, suc, ◌+◌, ◌-◌, ◌*◌, ◌/◌, ◌%◌, ◌^◌, ◌≤◌, ◌<◌}
 use mathlib.Core.Path.{◌≡◌, refl, ◌∙◌}
 use mathlib.Core.List.{List, [], ◌∷◌, ◌++◌}
-use native.Mathlib.Nat.{pow-suc}
+use native.Mathlib.Nat.{pow-suc, one-le-pow}
 use native.Mathlib.Omega.{arith}
-use lib.ListN.{length, length-append, set, get_or, replicate, get_or-append}
-use lib.Seq.{sets}
+use lib.ListN.{length, length-append, get_or, replicate, get_or-append}
 use borrow.Author.Tests.{lt-ltb, le-ltb, ltb-true, ltb-false}
 use Rattle.text.specs.Lines.{decimal, digits_up_to, digits_of, unpadded}
 use Rattle.text.specs.Characters.{Digits, read_from, Reads, ReadsAtRight}
 use mathlib.Core.Bool.{Bool, true, false, cond}
 use mathlib.Core.Logic.{◌≢◌}
 use lib.Dec.{ltb}
-use Rattle.text.proofs.Put.{last-first}
 
 pub length-decimal : (k v : ℕ) → length (decimal k v) ≡ k
 unfolding decimal
 length-decimal zero v = refl
 length-decimal (suc k) v = length-append (decimal k (v / 10)) ((48 + v % 10) ∷ []) ∙ rw (length-decimal k (v / 10)) (omega arith)
-
-pub last-digit-first : (l : List ℕ) (at k v : ℕ) → sets (set l (at + k) (48 + v % 10)) at (decimal k (v / 10)) ≡ sets l at (decimal (suc k) v)
-unfolding decimal
-last-digit-first l at k v = rw (length-decimal k (v / 10)) at (last-first l at (decimal k (v / 10)) (48 + v % 10))
 
 -- The digits of a number of one digit, and of one that is divided by ten.
 pub digits-short : (k v : ℕ) → v < 10 → digits_up_to k v ≡ 1
@@ -43,6 +37,27 @@ digits-few (suc k) (suc j) v h = go (ltb v 10) (digits-few k j (v / 10) (omega (
     go : (b : Bool) → digits_up_to k (v / 10) ≤ suc j → cond b 1 (suc (digits_up_to k (v / 10))) ≤ suc (suc j)
     go true shorter = omega arith
     go false shorter = omega arith
+
+digits-some : (k v : ℕ) → 0 < digits_up_to k v
+unfolding digits_up_to
+digits-some zero v = omega arith
+digits-some (suc k) v = go (ltb v 10)
+  where
+    go : (b : Bool) → 0 < cond b 1 (suc (digits_up_to k (v / 10)))
+    go true = omega arith
+    go false = omega arith
+
+-- And more than a power of ten that is not.
+digits-more : (k j v : ℕ) → j ≤ k → 10 ^ j ≤ v → j < digits_up_to k v
+digits-more k zero v l h = digits-some k v
+digits-more zero (suc j) v l h = absurd (omega arith)
+digits-more (suc k) (suc j) v l h =
+    let shorter : 10 ^ j ≤ v / 10 = omega (arith, pow-suc 10 j, h) in
+    omega (arith, digits_long k v (omega (arith, pow-suc 10 j, h, one-le-pow j 10 (omega arith))), digits-more k j (v / 10) (omega arith) shorter)
+
+-- So the power of ten at or below a number says how many there are.
+pub digits-by-power : (k v : ℕ) → 10 ^ k ≤ v → v < 10 * 10 ^ k → k < 20 → k + 1 ≡ digits_of v
+digits-by-power k v low high fits = omega (arith, digits-few 19 k v (omega (arith, pow-suc 10 k, high)), digits-more 19 k v (omega arith) low)
 
 -- ---- digits read back
 
@@ -81,15 +96,6 @@ digits-hold (suc k) v h = go (digits-hold k (v / 10) (omega (arith, pow-suc 10 (
     go : v / 10 < 10 ^ digits_up_to k (v / 10) → (b : Bool) → ltb v 10 ≡ b → v < 10 ^ cond b 1 (suc (digits_up_to k (v / 10)))
     go shorter true e = ltb-true v 10 e
     go shorter false e = omega (arith, pow-suc 10 (digits_up_to k (v / 10)), shorter)
-
-digits-some : (k v : ℕ) → 0 < digits_up_to k v
-unfolding digits_up_to
-digits-some zero v = omega arith
-digits-some (suc k) v = go (ltb v 10)
-  where
-    go : (b : Bool) → 0 < cond b 1 (suc (digits_up_to k (v / 10)))
-    go true = omega arith
-    go false = omega arith
 
 pub first-no-zero : (k v : ℕ) → 0 < v → v < 10 ^ suc k → get_or (decimal (digits_up_to k v) v) 0 0 ≢ 48
 unfolding digits_up_to decimal

@@ -1,118 +1,87 @@
-// The lines of a tape as text, printed into a lent area: each function gives the place after its text.
+// The lines of a tape as text, appended to what is printed so far.
 #![tactic(auto)]
 
-ghost use Rattle.std.specs.Prelude.{◌≡◌, [], ◌∷◌, cond, max, ◌+◌, ◌≤◌, ◌<◌, eqb, length, replicate};
+ghost use Rattle.std.specs.Prelude.{◌≡◌, [], ◌∷◌, ◌++◌, max, ◌+◌, ◌/◌, ◌%◌, ◌≤◌, ◌<◌, length, replicate};
+ghost use Rattle.arrayvec.specs.ArrayVec.{array_vec_len};
 ghost use Rattle.rules.specs.Areas.{per_port};
 ghost use Rattle.text.specs.Lines.{decimal, digits_of, hex, field, refused_line, withdrawn, port_field, withdrawn_sum, tick_text, tick_line};
-ghost use Rattle.text.specs.Put.{Put};
 
-use layout::Router;
-
-// A character.
-pub fn put_char(lines: &mut [u8], at: usize, b: u8) -> usize
-    requires { at < length lines.old }
-    ensures { Put (b ∷ []) at lines.old lines.new result }
-{
-    lines[at] = b;
-    at + 1
-}
-
-// Given characters.
-fn put_text(lines: &mut [u8], at: usize, text: &[u8]) -> usize
-    requires { at + length text.now ≤ length lines.old }
-    ensures { Put text.now at lines.old lines.new result }
-{
-    layout::copy_in(text, lines, at);
-    at + text.len()
-}
+use arrayvec::ArrayVec;
+use layout::{Port, Router};
 
 // A character so many times.
-pub fn put_repeated(lines: &mut [u8], at: usize, count: usize, b: u8) -> usize
-    requires { at + count ≤ length lines.old }
-    ensures put { Put (replicate count b) at lines.old lines.new result }
-    ensures value { result ≡ at + count }
+pub fn put_repeated<const N: usize>(lines: &mut ArrayVec<u8, N>, count: usize, b: u8)
+    requires { array_vec_len lines.old + count ≤ N }
+    ensures appended { lines.new.items ≡ lines.old.items ++ replicate count b }
+    ensures len { array_vec_len lines.new ≡ array_vec_len lines.old + count }
 {
-    let mut left = count;
-    while 0 < left {
-        left -= 1;
-        lines[at + left] = b;
+    for _ in 0..count {
+        lines.push(b);
     }
-    at + count
+}
+
+// The last digits of a number, one in each place.
+fn fill_decimal(digits: &mut [u8], value: u64)
+    ensures { digits.new ≡ decimal (length digits.old) value }
+{
+    let mut rest = value;
+    for i in (0..digits.len()).rev() {
+        digits[i] = b'0' + (rest % 10) as u8;
+        rest /= 10;
+    }
 }
 
 // The last digits of a number.
-pub fn put_decimal(lines: &mut [u8], at: usize, width: usize, value: u64) -> usize
-    requires { at + width ≤ length lines.old }
-    ensures put { Put (decimal width value) at lines.old lines.new result }
-    ensures value { result ≡ at + width }
+pub fn put_decimal<const N: usize>(lines: &mut ArrayVec<u8, N>, width: usize, value: u64)
+    requires { array_vec_len lines.old + width ≤ N }
+    ensures appended { lines.new.items ≡ lines.old.items ++ decimal width value }
+    ensures len { array_vec_len lines.new ≡ array_vec_len lines.old + width }
 {
-    let mut left = width;
-    let mut rest = value;
-    while 0 < left {
-        left -= 1;
-        lines[at + left] = b'0' + (rest % 10) as u8;
-        rest /= 10;
-    }
-    at + width
+    let start = lines.len();
+    put_repeated(lines, width, b'0');
+    fill_decimal(&mut lines[start..], value);
 }
 
 // How many digits a number has without zeros in front.
 pub fn digits(number: u64) -> usize
-    ensures value { result ≡ digits_of number }
-    ensures upper_bound { result ≤ 20 }
+    ensures count { result ≡ digits_of number }
+    ensures bound { result ≤ 20 }
 {
-    let mut more: usize = 19;
-    let mut rest = number;
-    while 0 < more {
-        if rest < 10 {
-            return 20 - more;
-        }
-        rest /= 10;
-        more -= 1;
+    match number.checked_ilog10() {
+        Some(power) => power as usize + 1,
+        None => 1,
     }
-    20
 }
 
 // The same, and at least six.
 fn record_digits(number: u64) -> usize
-    ensures value { result ≡ max 6 (digits_of number) }
-    ensures upper_bound { result ≤ 20 }
+    ensures count { result ≡ max 6 (digits_of number) }
+    ensures bound { result ≤ 20 }
 {
-    let count = digits(number);
-    if count < 6 {
-        return 6;
-    }
-    count
+    digits(number).max(6)
 }
 
 // A space and the last digits of a number.
-pub fn put_spaced(lines: &mut [u8], at: usize, width: usize, value: u64) -> usize
-    requires { at + 1 + width ≤ length lines.old }
-    ensures put { Put (32 ∷ decimal width value) at lines.old lines.new result }
-    ensures value { result ≡ at + 1 + width }
+pub fn put_spaced<const N: usize>(lines: &mut ArrayVec<u8, N>, width: usize, value: u64)
+    requires { array_vec_len lines.old + 1 + width ≤ N }
+    ensures appended { lines.new.items ≡ lines.old.items ++ 32 ∷ decimal width value }
+    ensures len { array_vec_len lines.new ≡ array_vec_len lines.old + 1 + width }
 {
-    let digits = put_char(lines, at, b' ');
-    put_decimal(lines, digits, width, value)
+    lines.push(b' ');
+    put_decimal(lines, width, value);
 }
 
 // The line of a refused record or arrival.
-pub fn put_refused(lines: &mut [u8], at: usize, number: u64, refusal: u8) -> usize
-    requires { at + 26 ≤ length lines.old }
-    ensures put { Put (refused_line number refusal) at lines.old lines.new result }
-    ensures upper_bound { result ≤ at + 26 }
+#[tactic(auto, unfolding(crate::specs::Lines::refused_line))]
+pub fn put_refused<const N: usize>(lines: &mut ArrayVec<u8, N>, number: u64, refusal: u8)
+    requires { array_vec_len lines.old + 26 ≤ N }
+    ensures appended { lines.new.items ≡ lines.old.items ++ refused_line number refusal }
+    ensures len { array_vec_len lines.new ≤ array_vec_len lines.old + 26 }
 {
-    let width = record_digits(number);
-    let place = put_char(lines, at, b'R');
-    let after = put_spaced(lines, place, width, number);
-    let end = put_spaced(lines, after, 2, refusal as u64);
-    put_char(lines, end, b'\n')
-}
-
-// One of two bytes, by a test.
-fn pick(test: bool, yes: u8, no: u8) -> u8
-    ensures { result ≡ cond test yes no }
-{
-    if test { yes } else { no }
+    lines.push(b'R');
+    put_spaced(lines, record_digits(number), number);
+    put_spaced(lines, 2, u64::from(refusal));
+    lines.push(b'\n');
 }
 
 // A capital hex digit.
@@ -120,116 +89,123 @@ fn hex_digit(d: u8) -> u8
     requires { d < 16 }
     ensures { result ≡ hex d }
 {
-    pick(d < 10, b'0' + d, 55 + d)
+    if d < 10 { b'0' + d } else { b'A' + (d - 10) }
 }
 
-// N for a packet on time, E for an early one.
-fn letter(code: u8) -> u8
-    ensures { result ≡ cond (eqb code 1) 78 69 }
+// The identifier in two hex digits, and a letter.
+fn identified(identifier: u8, letter: u8) -> [u8; 3]
+    ensures { result ≡ hex (identifier / 16) ∷ hex (identifier % 16) ∷ letter ∷ [] }
 {
-    pick(code == 1, b'N', b'E')
-}
-
-// A port's field, from its answer and the outgoing identifier.
-fn field_bytes(code: u8, identifier: u8) -> [u8; 3]
-    ensures { result ≡ field code identifier }
-{
-    if code == 0 {
-        return [b'-', b'-', b'-'];
-    }
-    if code == 2 {
-        return [b'b', b'e', b'f'];
-    }
     [
         hex_digit(identifier / 16),
         hex_digit(identifier % 16),
-        letter(code),
+        letter,
     ]
 }
 
-pub fn put_field(lines: &mut [u8], at: usize, code: u8, identifier: u8) -> usize
-    requires { at + 3 ≤ length lines.old }
-    ensures put { Put (field code identifier) at lines.old lines.new result }
-    ensures value { result ≡ at + 3 }
+// A port's field, from its answer and the outgoing identifier. The answer stays a number, since the C interface has it as a byte, and `field` says what each of the 256 shows.
+#[tactic(auto, unfolding(crate::specs::Lines::field))]
+fn field_bytes(code: u8, identifier: u8) -> [u8; 3]
+    ensures { result ≡ field code identifier }
 {
-    let bytes = field_bytes(code, identifier);
-    put_text(lines, at, &bytes)
+    match code {
+        0 => *b"---",
+        1 => identified(identifier, b'N'),
+        2 => *b"bef",
+        _ => identified(identifier, b'E'),
+    }
+}
+
+pub fn put_field<const N: usize>(lines: &mut ArrayVec<u8, N>, code: u8, identifier: u8)
+    requires { array_vec_len lines.old + 3 ≤ N }
+    ensures appended { lines.new.items ≡ lines.old.items ++ field code identifier }
+    ensures len { array_vec_len lines.new ≡ array_vec_len lines.old + 3 }
+{
+    lines
+        .try_extend_from_slice(&field_bytes(code, identifier))
+        .unwrap();
 }
 
 // A space and a port's field, from the outgoing and the answer bytes.
-fn put_port(lines: &mut [u8], at: usize, port: usize, outgoing: &[u8], answers: &[u8]) -> usize
-    requires { (at + 4 ≤ length lines.old) × (port < 5) }
-    ensures put { Put (port_field outgoing.now answers.now port) at lines.old lines.new result }
-    ensures value { result ≡ at + 4 }
+#[tactic(auto, unfolding(crate::specs::Lines::port_field))]
+fn put_port<const N: usize>(
+    lines: &mut ArrayVec<u8, N>,
+    port: Port,
+    outgoing: &[u8],
+    answers: &[u8],
+)
+    requires { array_vec_len lines.old + 4 ≤ N }
+    ensures appended { lines.new.items ≡ lines.old.items ++ port_field outgoing.now answers.now port.index }
+    ensures len { array_vec_len lines.new ≡ array_vec_len lines.old + 4 }
 {
-    let code = layout::byte(answers, port);
-    let identifier = layout::byte(outgoing, Router::PACKET * port);
-    let place = put_char(lines, at, b' ');
-    put_field(lines, place, code, identifier)
+    let place = usize::from(port.index);
+    let code = layout::byte(answers, place);
+    let identifier = layout::byte(outgoing, Router::PACKET * place);
+    lines.push(b' ');
+    put_field(lines, code, identifier);
 }
 
-fn put_ports(lines: &mut [u8], at: usize, outgoing: &[u8], answers: &[u8]) -> usize
-    requires { at + 20 ≤ length lines.old }
-    ensures put { Put (per_port (port_field outgoing.now answers.now)) at lines.old lines.new result }
-    ensures value { result ≡ at + 20 }
+#[tactic(auto, unfolding(rules::specs::Areas::ports_below))]
+fn put_ports<const N: usize>(lines: &mut ArrayVec<u8, N>, outgoing: &[u8], answers: &[u8])
+    requires { array_vec_len lines.old + 20 ≤ N }
+    ensures appended { lines.new.items ≡ lines.old.items ++ per_port (port_field outgoing.now answers.now) }
+    ensures len { array_vec_len lines.new ≡ array_vec_len lines.old + 20 }
 {
-    let mut place = at;
-    let mut port: usize = 0;
-    while port < Router::PORTS {
-        place = put_port(lines, place, port, outgoing, answers);
-        port += 1;
+    for index in 0..Port::COUNT {
+        put_port(lines, Port { index }, outgoing, answers);
     }
-    place
 }
 
 // How many packets were withdrawn on a port.
-pub fn withdrawn_on(answers: &[u8], port: usize) -> u16
-    requires { port < 5 }
-    ensures { result ≡ withdrawn answers.now port }
+pub fn withdrawn_on(answers: &[u8], port: Port) -> u16
+    ensures { result ≡ withdrawn answers.now port.index }
 {
-    (layout::byte(answers, 10 + 2 * port) as u16) * 256
-        + layout::byte(answers, 11 + 2 * port) as u16
+    layout::pair(answers, 10 + 2 * usize::from(port.index))
 }
 
 // How many packets were withdrawn in all.
+#[tactic(auto, unfolding(crate::specs::Lines::withdrawn_below))]
 pub fn withdrawn_sum(answers: &[u8]) -> u64
-    ensures value { result ≡ withdrawn_sum answers.now }
-    ensures upper_bound { result ≤ 327675 }
+    ensures sum { result ≡ withdrawn_sum answers.now }
+    ensures bound { result ≤ 327675 }
 {
-    let mut sum: u64 = 0;
-    let mut port: usize = 0;
-    while port < Router::PORTS {
-        sum += withdrawn_on(answers, port) as u64;
-        port += 1;
+    let mut sum = 0;
+    for index in 0..Port::COUNT {
+        sum += u64::from(withdrawn_on(answers, Port { index }));
     }
     sum
 }
 
 // An accepted tick's text: 30 characters, from the clock before it, the outgoing and the answer bytes.
-pub fn put_tick_text(
-    lines: &mut [u8],
-    at: usize,
+#[tactic(auto, unfolding(crate::specs::Lines::tick_text))]
+pub fn put_tick_text<const N: usize>(
+    lines: &mut ArrayVec<u8, N>,
     clock: u8,
     outgoing: &[u8],
     answers: &[u8],
-) -> usize
-    requires { at + 30 ≤ length lines.old }
-    ensures put { Put (tick_text clock outgoing.now answers.now) at lines.old lines.new result }
-    ensures value { result ≡ at + 30 }
+)
+    requires { array_vec_len lines.old + 30 ≤ N }
+    ensures appended { lines.new.items ≡ lines.old.items ++ tick_text clock outgoing.now answers.now }
+    ensures len { array_vec_len lines.new ≡ array_vec_len lines.old + 30 }
 {
-    let total = withdrawn_sum(answers);
-    let place = put_char(lines, at, b'T');
-    let fields = put_spaced(lines, place, 3, clock as u64);
-    let end = put_ports(lines, fields, outgoing, answers);
-    put_spaced(lines, end, 4, total)
+    lines.push(b'T');
+    put_spaced(lines, 3, u64::from(clock));
+    put_ports(lines, outgoing, answers);
+    put_spaced(lines, 4, withdrawn_sum(answers));
 }
 
 // An accepted tick's line: its text and a line feed.
-pub fn put_tick(lines: &mut [u8], at: usize, clock: u8, outgoing: &[u8], answers: &[u8]) -> usize
-    requires { at + 31 ≤ length lines.old }
-    ensures put { Put (tick_line clock outgoing.now answers.now) at lines.old lines.new result }
-    ensures value { result ≡ at + 31 }
+#[tactic(auto, unfolding(crate::specs::Lines::tick_line))]
+pub fn put_tick<const N: usize>(
+    lines: &mut ArrayVec<u8, N>,
+    clock: u8,
+    outgoing: &[u8],
+    answers: &[u8],
+)
+    requires { array_vec_len lines.old + 31 ≤ N }
+    ensures appended { lines.new.items ≡ lines.old.items ++ tick_line clock outgoing.now answers.now }
+    ensures len { array_vec_len lines.new ≡ array_vec_len lines.old + 31 }
 {
-    let feed = put_tick_text(lines, at, clock, outgoing, answers);
-    put_char(lines, feed, b'\n')
+    put_tick_text(lines, clock, outgoing, answers);
+    lines.push(b'\n');
 }

@@ -1,10 +1,9 @@
--- `layout::copy_in` meets its contract. The loop's invariant: the first `j` bytes are copied. The measure is what is left of them. Assumes nothing.
-use Rattle.rules.proofs.FieldBytes.{sets-snoc}
-use lib.ListN.{length-set}
-use native.Mathlib.Numerals.{add-one}
-use Prim.Native.Nat.{◌-◌}
-use borrow.Author.Rules.{rules}
+-- `layout::copy_in` meets its contract: the part copied over is as long as what is copied. Assumes nothing.
+use native.Mathlib.Omega.{arith}
+use Prim.Native.Nat.{◌+◌}
+use lib.ListN.{length}
+use Rattle.layout.proofs.Parts.{part-stored}
 use Rattle.layout.proofs.copy_in.Goals as goal
 
-pub loop-j-preserved : goal.loop-j-preserved
-loop-j-preserved c = (search rules, simp length-set c.loop-j.invariant.1, rw (c.loop-j.invariant.2, add-one) (sets-snoc c.args.dst.now c.args.src.now c.args.at c.loop-j.j c.loop-j-test.true))
+pub returns : goal.returns
+returns c = rw c.copy_from_slice.ensures.after (part-stored c.args.dst.now c.args.src.now c.args.at (c.args.at + length c.args.src.now) (omega arith) (omega arith) (omega arith))
