@@ -10,6 +10,7 @@ ghost use Rattle.pages.specs.Values.{PutPaged};
 
 use arrayvec::ArrayVec;
 use events::Event;
+use layout::ClockReading;
 use std::marker::Model;
 
 // A line has 72 characters, and a page 62 ticks.
@@ -42,9 +43,14 @@ fn put_number<const N: usize>(lines: &mut ArrayVec<u8, N>, number: u64)
 
 // An accepted tick's line, from the clock before it, the outgoing and the answer bytes.
 #[tactic(auto, using(crate::proofs::Lines::line_parts))]
-fn put_row<const N: usize>(lines: &mut ArrayVec<u8, N>, clock: u8, outgoing: &[u8], answers: &[u8])
+fn put_row<const N: usize>(
+    lines: &mut ArrayVec<u8, N>,
+    clock: ClockReading,
+    outgoing: &[u8],
+    answers: &[u8],
+)
     requires { array_vec_len lines.old + 73 ≤ N }
-    ensures appended { lines.new.items ≡ lines.old.items ++ ended (tick_row (record { clock = clock; outgoing = outgoing.now; answers = answers.now }) ∷ []) }
+    ensures appended { lines.new.items ≡ lines.old.items ++ ended (tick_row (record { clock = clock.0; outgoing = outgoing.now; answers = answers.now }) ∷ []) }
     ensures len { array_vec_len lines.new ≡ array_vec_len lines.old + 73 }
 {
     text::put_tick_text(lines, clock, outgoing, answers);
@@ -132,12 +138,12 @@ impl Page {
     fn put_tick<const N: usize>(
         &mut self,
         lines: &mut ArrayVec<u8, N>,
-        clock: u8,
+        clock: ClockReading,
         outgoing: &[u8],
         answers: &[u8],
     )
         requires { array_vec_len lines.old + 146 ≤ N }
-        ensures put_paged { PutPaged (Printing.with_tick self.old (record { clock = clock; outgoing = outgoing.now; answers = answers.now })) self.new lines.old.items lines.new.items }
+        ensures put_paged { PutPaged (Printing.with_tick self.old (record { clock = clock.0; outgoing = outgoing.now; answers = answers.now })) self.new lines.old.items lines.new.items }
         ensures len { array_vec_len lines.new ≤ array_vec_len lines.old + 146 }
     {
         self.put_opening(lines);
@@ -170,7 +176,7 @@ impl Page {
         ensures len { array_vec_len lines.new ≤ array_vec_len lines.old + 146 }
     {
         if let Ok(Some(clock)) = event {
-            self.put_tick(lines, clock.0, outgoing, answers);
+            self.put_tick(lines, clock, outgoing, answers);
         }
     }
 

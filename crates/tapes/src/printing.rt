@@ -8,10 +8,10 @@ ghost use Rattle.tapes.specs.Printed.{refused_arrival, ticked_lines, event_lines
 
 use arrayvec::ArrayVec;
 use events::Event;
-use layout::{Port, Router};
+use layout::{ClockReading, Port, Router};
 use pages::Page;
 
-// What is printed of a tape: its lines, or its pages. An enum, since `printed` and `ReadsPrintTheTape` (specs) are over a style.
+// What is printed of a tape: its lines, or its pages. An enum, since `printed` and `ReadsPrintTheTape` (specs) are over a style; the page at hand goes beside it, since `print_event` and the place between blocks have one in either style.
 #[derive(Clone, Copy)]
 pub enum Style {
     Lines,
@@ -60,12 +60,12 @@ fn put_refused_arrivals<const N: usize>(
 fn put_ticked<const N: usize>(
     lines: &mut ArrayVec<u8, N>,
     records: [u64; Router::PORTS],
-    clock: u8,
+    clock: ClockReading,
     outgoing: &[u8],
     answers: &[u8],
 )
     requires { array_vec_len lines.old + 161 ≤ N }
-    ensures appended { lines.new.items ≡ lines.old.items ++ ticked_lines records clock outgoing.now answers.now }
+    ensures appended { lines.new.items ≡ lines.old.items ++ ticked_lines records clock.0 outgoing.now answers.now }
     ensures len { array_vec_len lines.new ≤ array_vec_len lines.old + 161 }
 {
     put_refused_arrivals(lines, records, answers);
@@ -88,7 +88,7 @@ fn put_lines<const N: usize>(
 {
     match event {
         Ok(None) => {}
-        Ok(Some(clock)) => put_ticked(lines, records, clock.0, outgoing, answers),
+        Ok(Some(clock)) => put_ticked(lines, records, clock, outgoing, answers),
         Err(refused) => text::put_refused(lines, number, refused.into()),
     }
 }

@@ -1,6 +1,6 @@
 -- The characters of a text, by its parts: how many a tick's has, that none of them is a line feed, and that a line ends at the first one. Assumes nothing.
 use Prim.Native.Nat.{ℕ, zero, suc, ◌+◌, ◌*◌, ◌/◌, ◌%◌}
-use mathlib.Core.Path.{◌≡◌, refl, ◌∙◌}
+use mathlib.Core.Path.{◌≡◌, refl, ap}
 use mathlib.Core.Bool.{Bool, true, false, cond}
 use mathlib.Core.List.{List, [], ◌∷◌, ◌++◌, append-nil}
 use mathlib.Core.Logic.{◌≢◌}
@@ -9,7 +9,8 @@ use lib.ListN.{length, length-append, replicate}
 use lib.Seq.{append_snoc}
 use lib.Dec.{eqb, ltb}
 use borrow.Author.Tests.{ne_eqb}
-use Rattle.rules.specs.Areas.{ports_below, per_port}
+use Rattle.rules.specs.Areas.{packet_length, byte, ports_below, per_port}
+use Rattle.rules.proofs.AreaLaws.{length-ports_below}
 use Rattle.text.specs.Lines.{decimal, hex, field, port_field, withdrawn_sum, tick_text}
 use Rattle.text.specs.Characters.{NoFeed, cut_from}
 use Rattle.text.proofs.Numbers.{length-decimal}
@@ -25,18 +26,19 @@ length-field code identifier = go (eqb code 0) (eqb code 2)
     go false true = refl
     go false false = refl
 
-length-ports : (out ans : List ℕ) (p : ℕ) → length (ports_below (port_field out ans) p) ≡ 4 * p
-unfolding ports_below port_field
-length-ports out ans zero = refl
-length-ports out ans (suc p) =
-    length-append (ports_below (port_field out ans) p) (port_field out ans p) ∙ rw (length-ports out ans p, length-field) (omega arith)
+pub length-port-field : (out ans : List ℕ) (p : ℕ) → length (port_field out ans p) ≡ 4
+unfolding port_field
+length-port-field out ans p = ap suc (length-field (byte ans p) (byte out (packet_length * p)))
+
+pub length-ports : (out ans : List ℕ) → length (per_port (port_field out ans)) ≡ 20
+length-ports out ans = length-ports_below 4 (port_field out ans) 5 (λ p h. length-port-field out ans p)
 
 pub length-tick-text : (t : ℕ) (out ans : List ℕ) → length (tick_text t out ans) ≡ 30
 unfolding tick_text
 length-tick-text t out ans =
     let ports = per_port (port_field out ans) in
     let count : List ℕ = 32 ∷ decimal 4 (withdrawn_sum ans) in
-    rw (length-append (decimal 3 t ++ ports) count, length-append (decimal 3 t) ports, length-decimal 3 t, length-ports out ans 5, length-decimal 4 (withdrawn_sum ans))
+    rw (length-append (decimal 3 t ++ ports) count, length-append (decimal 3 t) ports, length-decimal 3 t, length-ports out ans, length-decimal 4 (withdrawn_sum ans))
 
 -- ---- no line feed
 

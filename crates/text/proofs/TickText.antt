@@ -8,10 +8,10 @@ use lib.ListN.{length, length-drop, take, drop}
 use lib.Seq.{take_at, take-append-le, drop-append-le, drop-append-add, get_or-append-add, get_or-take, get_or-drop, drop-drop}
 use Rattle.rules.specs.Areas.{byte, per_port}
 use Rattle.rules.proofs.Booleans.{cons-rest, nil-cons}
-use Rattle.rules.proofs.AreaLaws.{length-ports_below, part-ports_below}
+use Rattle.rules.proofs.AreaLaws.{part-ports_below}
 use Rattle.text.specs.Lines.{decimal, field, port_field, withdrawn_sum, tick_text}
 use Rattle.text.proofs.Numbers.{length-decimal}
-use Rattle.text.proofs.Characters.{length-field}
+use Rattle.text.proofs.Characters.{length-field, length-port-field, length-ports}
 
 module _ (t : ℕ) (out ans : List ℕ) where
   abbrev ports : List ℕ
@@ -31,13 +31,6 @@ module _ (t : ℕ) (out ans : List ℕ) where
   length-head : length head ≡ 5
   length-head = omega (arith, length-decimal 3 t)
 
-  length-one : (p : ℕ) → length (port_field out ans p) ≡ 4
-  unfolding port_field
-  length-one p = omega (arith, length-field (byte ans p) (byte out (20 * p)))
-
-  length-five : length ports ≡ 20
-  length-five = length-ports_below 4 (port_field out ans) 5 (λ p h. length-one p)
-
   -- After the head; the ports' part; and after them.
   drop_head : (n : ℕ) → drop (5 + n) (tick_text t out ans) ≡ drop n (ports ++ last)
   drop_head n = rw text-parts (ap (λ (m : ℕ). drop m (head ++ (ports ++ last))) (let e : 5 + n ≡ length head + n = omega (arith, length-head) in e) ∙ drop-append-add head (ports ++ last) n)
@@ -47,8 +40,8 @@ module _ (t : ℕ) (out ans : List ℕ) where
 
   port-part : (p : ℕ) → p < 5 → take 4 (drop (4 * p) (ports ++ last)) ≡ port_field out ans p
   port-part p h =
-      rw (drop-append-le (4 * p) ports last (omega (arith, length-five)), take-append-le 4 (drop (4 * p) ports) last (omega (arith, length-five, length-drop (4 * p) ports)))
-      (part-ports_below 4 (port_field out ans) 5 (λ q m. length-one q) p h)
+      rw (drop-append-le (4 * p) ports last (omega (arith, length-ports out ans)), take-append-le 4 (drop (4 * p) ports) last (omega (arith, length-ports out ans, length-drop (4 * p) ports)))
+      (part-ports_below 4 (port_field out ans) 5 (λ q m. length-port-field out ans q) p h)
 
   port-space : (p : ℕ) → p < 5 → byte (tick_text t out ans) (5 + 4 * p) ≡ 32
   unfolding port_field
@@ -71,10 +64,10 @@ module _ (t : ℕ) (out ans : List ℕ) where
 
   pub count-part : drop 26 (tick_text t out ans) ≡ decimal 4 (withdrawn_sum ans)
   count-part =
-      rw (drop_head 21) (ap (λ (n : ℕ). drop n (ports ++ last)) (let e : 21 ≡ length ports + 1 = omega (arith, length-five) in e) ∙ drop-append-add ports last 1)
+      rw (drop_head 21) (ap (λ (n : ℕ). drop n (ports ++ last)) (let e : 21 ≡ length ports + 1 = omega (arith, length-ports out ans) in e) ∙ drop-append-add ports last 1)
 
   last-space : byte (tick_text t out ans) 25 ≡ 32
-  last-space = byte-after 20 ∙ ap (byte (ports ++ last)) (let e : 20 ≡ length ports + 0 = omega (arith, length-five) in e) ∙ get_or-append-add ports last 0 0
+  last-space = byte-after 20 ∙ ap (byte (ports ++ last)) (let e : 20 ≡ length ports + 0 = omega (arith, length-ports out ans) in e) ∙ get_or-append-add ports last 0 0
 
   pub all-spaces : (i : ℕ) → i < 7 → byte (tick_text t out ans) (1 + 4 * i) ≡ 32
   unfolding tick_text

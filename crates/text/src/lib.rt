@@ -7,7 +7,7 @@ ghost use Rattle.rules.specs.Areas.{per_port};
 ghost use Rattle.text.specs.Lines.{decimal, digits_of, hex, field, refused_line, withdrawn, port_field, withdrawn_sum, tick_text, tick_line};
 
 use arrayvec::ArrayVec;
-use layout::{Port, Router};
+use layout::{ClockReading, Port, Router};
 
 // A character so many times.
 pub fn put_repeated<const N: usize>(lines: &mut ArrayVec<u8, N>, count: usize, b: u8)
@@ -20,7 +20,7 @@ pub fn put_repeated<const N: usize>(lines: &mut ArrayVec<u8, N>, count: usize, b
     }
 }
 
-// The last digits of a number, one in each place.
+// The last digits of a number, one in each place. The loop goes by index, since the check knows nothing of what `iter_mut().rev()` leaves.
 fn fill_decimal(digits: &mut [u8], value: u64)
     ensures { digits.new ≡ decimal (length digits.old) value }
 {
@@ -71,7 +71,7 @@ pub fn put_spaced<const N: usize>(lines: &mut ArrayVec<u8, N>, width: usize, val
     put_decimal(lines, width, value);
 }
 
-// The line of a refused record or arrival.
+// The line of a refused record or arrival. The refusal comes as its number, since the C interface has an arrival's as a byte of the answers.
 #[tactic(auto, unfolding(crate::specs::Lines::refused_line))]
 pub fn put_refused<const N: usize>(lines: &mut ArrayVec<u8, N>, number: u64, refusal: u8)
     requires { array_vec_len lines.old + 26 ≤ N }
@@ -176,20 +176,20 @@ pub fn withdrawn_sum(answers: &[u8]) -> u64
     sum
 }
 
-// An accepted tick's text: 30 characters, from the clock before it, the outgoing and the answer bytes.
+// An accepted tick's text: 30 characters, from the clock before it, the outgoing and the answer bytes. These are slices and no `Reply`, which is of a crate above: a byte past the end of one counts as 0.
 #[tactic(auto, unfolding(crate::specs::Lines::tick_text))]
 pub fn put_tick_text<const N: usize>(
     lines: &mut ArrayVec<u8, N>,
-    clock: u8,
+    clock: ClockReading,
     outgoing: &[u8],
     answers: &[u8],
 )
     requires { array_vec_len lines.old + 30 ≤ N }
-    ensures appended { lines.new.items ≡ lines.old.items ++ tick_text clock outgoing.now answers.now }
+    ensures appended { lines.new.items ≡ lines.old.items ++ tick_text clock.0 outgoing.now answers.now }
     ensures len { array_vec_len lines.new ≡ array_vec_len lines.old + 30 }
 {
     lines.push(b'T');
-    put_spaced(lines, 3, u64::from(clock));
+    put_spaced(lines, 3, u64::from(clock.0));
     put_ports(lines, outgoing, answers);
     put_spaced(lines, 4, withdrawn_sum(answers));
 }
@@ -198,12 +198,12 @@ pub fn put_tick_text<const N: usize>(
 #[tactic(auto, unfolding(crate::specs::Lines::tick_line))]
 pub fn put_tick<const N: usize>(
     lines: &mut ArrayVec<u8, N>,
-    clock: u8,
+    clock: ClockReading,
     outgoing: &[u8],
     answers: &[u8],
 )
     requires { array_vec_len lines.old + 31 ≤ N }
-    ensures appended { lines.new.items ≡ lines.old.items ++ tick_line clock outgoing.now answers.now }
+    ensures appended { lines.new.items ≡ lines.old.items ++ tick_line clock.0 outgoing.now answers.now }
     ensures len { array_vec_len lines.new ≡ array_vec_len lines.old + 31 }
 {
     put_tick_text(lines, clock, outgoing, answers);
