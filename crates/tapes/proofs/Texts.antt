@@ -29,26 +29,28 @@ print-append style p (e ∷ a) b =
 
 -- ---- one record more
 
-module _ (σ : Tape) (k : ℕ) (b : List ℕ) (i : ℕ) (τ : Tape) (so_far : τ ≡ (after σ k b i).tape) where
+module _ (σ : Tape) (k : ℕ) (b : List ℕ) (i : ℕ) (τ : Tape) (so_far : τ ≡ (after σ k b i).tape) (number : ℕ) (bytes : List ℕ) (its_number : number ≡ k + i + 1) (its_bytes : bytes ≡ record_at b i) where
   abbrev next : Taken
-  next = take_record τ (k + i + 1) (record_at b i)
+  next = take_record τ number bytes
+
+  as_in_after : next ≡ take_record (after σ k b i).tape (k + suc i) (record_at b i)
+  as_in_after =
+      let s : k + suc i ≡ k + i + 1 = omega arith in
+      rw (so_far, its_number, its_bytes, s)
 
   pub tape-then : (t : Tape) → t ≡ next.tape → t ≡ (after σ k b (i + 1)).tape
   unfolding after
-  tape-then t e =
-      let s : k + suc i ≡ k + i + 1 = omega arith in
-      rw (add-one i, ← so_far, s) e
+  tape-then t e = rw (add-one i, ← as_in_after) e
 
   pub text-then : (style : Style) (p q r : Page) {l l' l'' : List ℕ}
       → PutPaged (print_events style p (after σ k b i).events) q l l' → PutPaged (print_event style q next.event) r l' l''
       → PutPaged (print_events style p (after σ k b (i + 1)).events) r l l''
   unfolding after in_order
   text-then style p q r {l} x y =
-      let s : k + suc i ≡ k + i + 1 = omega arith in
       let z = rw x.page at y in
       let o = print_events style p (after σ k b i).events in
       let e = print_event style o.page next.event in
-      rw (add-one i, ← so_far, s, print-append style p (after σ k b i).events (next.event ∷ []), append-nil e.text)
+      rw (add-one i, ← as_in_after, print-append style p (after σ k b i).events (next.event ∷ []), append-nil e.text)
       (record { page = z.page; text = z.text ∙ rw x.text (append_assoc l o.text e.text) })
 
 -- ---- all that is printed

@@ -73,12 +73,7 @@ impl RouterPlace {
 
 impl<const S: usize, const M: usize> Place<S, M> {
     // The records of a block, a rest of fewer than 24 bytes among them, and their text.
-    pub fn run<const N: usize>(
-        &mut self,
-        block: &[u8],
-        style: Style,
-        lines: &mut ArrayVec<u8, N>,
-    )
+    pub fn run<const N: usize>(&mut self, block: &[u8], style: Style, lines: &mut ArrayVec<u8, N>)
         requires room { array_vec_len lines.old + 161 * records_in block.now ≤ N }
         requires number_fits { self.old.number + length block.now < 2 ^ 60 }
         ensures place_after { place_of self.new ≡ (Blocks.turned style (place_of self.old) block.now).place }

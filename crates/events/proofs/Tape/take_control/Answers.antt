@@ -9,4 +9,3 @@ unfolding take_control
 returns-in_err-router_control g c = λ out ans k.
     let p = err_from_is_err_and c.from_residual.result c.from_residual.ensures.1 in
     rw (p.1, p.2, ← c.byte-register.ensures, ← c.byte-value.ensures, ← c.in_err-router_control.ensures, call-number c.in_err-router_control.field-0.0)
-

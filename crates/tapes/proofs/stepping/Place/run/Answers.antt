@@ -1,5 +1,5 @@
 -- `run` meets its contract (see Invariants). Assumes nothing.
-use Rattle.std.proofs.Common.{◌≡◌, ◌*◌, [], ◌∷◌, length, take, drop, refl, sym, ap, ◌∙◌, arith, rules, append-nil, length-append, length-drop, drop-drop}
+use Rattle.std.proofs.Common.{◌≡◌, ◌+◌, ◌*◌, [], ◌∷◌, length, take, drop, refl, sym, ap, ◌∙◌, arith, rules, append-nil, length-append, length-drop, drop-drop}
 use Rattle.std.specs.Slice.Iter.{chunks_rest, chunks_size}
 use Rattle.records.specs.Records.{record_length, records_in, record_at}
 use Rattle.events.specs.Tape.{after}
@@ -30,16 +30,15 @@ loop-record-preserved g c =
     let same : c.in-Some.record.now ≡ record_at c.args.block.now i = chunk-first _ _ (chunks_rest c.next.new.self) record_length steps.1.0 size ∙ ap (take record_length) loop.rest in
     let leaves = chunk-leaves _ c.in-Some.record.now (chunks_rest c.next.new.self) record_length steps.1.0 size ∙ ap (drop record_length) loop.rest in
     let left = ap length loop.rest ∙ length-drop (record_length * i) c.args.block.now in
-    let tape = rw (same, loop.number) at c.step.ensures.tape_after in
-    let text = rw (same, loop.number) at c.step.ensures.put_paged in
+    let number : c.loop-record.self.number + 1 ≡ c.args.self.now.number + i + 1 = omega (arith, loop.number) in
     rw (length-append c.loop-record.yielded (c.in-Some.record ∷ [])) (record {
       size = steps.0 ∙ loop.size;
       rest = leaves ∙ drop-drop record_length (record_length * i) c.args.block.now ∙ ap (λ n. drop n c.args.block.now) (omega arith);
       passed = omega (arith, left);
       number = omega (arith, loop.number);
       room = omega (arith, loop.room);
-      tape = tape-then _ _ _ i _ loop.tape _ tape;
-      text = text-then _ _ _ i _ loop.tape _ _ _ _ loop.text text;
+      tape = tape-then _ _ _ i _ loop.tape _ _ number same _ c.step.ensures.tape_after;
+      text = text-then _ _ _ i _ loop.tape _ _ number same _ _ _ _ loop.text c.step.ensures.put_paged;
     })
 
 pub returns-clause-place_after : goal.returns-clause-place_after
@@ -48,7 +47,7 @@ returns-clause-place_after g c =
     let loop = c.loop-record.invariant in
     let left = ap length loop.rest ∙ length-drop (record_length * length c.loop-record.yielded) c.args.block.now in
     let all : length c.loop-record.yielded ≡ records_in c.args.block.now = omega (arith, left, loop.passed, c.in-None.ensures.steps) in
-    rw (← all, ← loop.tape, ← loop.number, ← loop.text.page)
+    rw (← all, loop.tape, loop.number, loop.text.page)
 
 pub returns-clause-appended : goal.returns-clause-appended
 unfolding turned
