@@ -80,12 +80,26 @@ fn put_total<const N: usize>(lines: &mut ArrayVec<u8, N>, total: u64)
     end_line(lines, LINE - 6);
 }
 
+// The rest of a page that is begun, whatever its number and what its ticks withdrew.
+#[tactic(auto, using(crate::proofs::Lines::line_parts), unfolding(crate::specs::Printing::ending))]
+pub fn put_end<const N: usize>(lines: &mut ArrayVec<u8, N>, ticks: usize, total: u64)
+    requires ticks { ticks < 62 }
+    requires room { array_vec_len lines.old + 4526 ≤ N }
+    ensures appended { (number : ℕ) → lines.new.items ≡ lines.old.items ++ Printing.ending (record { number = number; ticks = ticks; total = total }) }
+    ensures len { array_vec_len lines.new ≤ array_vec_len lines.old + 4526 }
+{
+    if 0 < ticks {
+        put_empty_rows(lines, TICKS - ticks);
+        put_total(lines, total);
+    }
+}
+
 // The page at hand: its number, how many ticks stand on it, and how many packets these withdrew. It is begun by its first tick, and is never full: with its last tick the next page is at hand.
 #[derive(Clone, Copy)]
 pub struct Page {
-    number: u64,
-    ticks: usize,
-    total: u64,
+    pub number: u64,
+    pub ticks: usize,
+    pub total: u64,
 }
 
 impl Model for Page {
@@ -181,15 +195,11 @@ impl Page {
     }
 
     // The tape's end: the rest of a page that is begun, at most 62 lines.
-    #[tactic(auto, using(crate::proofs::Lines::line_parts), unfolding(crate::specs::Printing::ending))]
     pub fn put_end<const N: usize>(&self, lines: &mut ArrayVec<u8, N>)
         requires { array_vec_len lines.old + 4526 ≤ N }
         ensures appended { lines.new.items ≡ lines.old.items ++ Printing.ending self.now }
         ensures len { array_vec_len lines.new ≤ array_vec_len lines.old + 4526 }
     {
-        if 0 < self.ticks {
-            put_empty_rows(lines, TICKS - self.ticks);
-            put_total(lines, self.total);
-        }
+        put_end(lines, self.ticks, self.total);
     }
 }
