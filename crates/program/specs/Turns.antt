@@ -1,4 +1,4 @@
--- What a turn of the programs' loop takes in and holds, what lies between turns, whether there is more to do, and what a whole run prints. Assumes nothing.
+-- What a turn of the programs' loop reads and holds, what lies between turns, what a run has come to, and what a whole run prints. Assumes nothing.
 use Rattle.std.specs.Io.KnownBytes.{Appends}
 use Rattle.std.specs.Prelude.{ℕ, ◌*◌, ◌≤◌, ◌<◌, Bool, List, length, take, drop, unwrap_or, IfSome}
 use Rattle.std.specs.declared.option.Option.{Option}
@@ -10,11 +10,11 @@ use Rattle.tapes.specs.Values.{place_of}
 use Rattle.tapes.specs.Blocks.{Between, Reached}
 use Rattle.program.specs.declared.Printer.{Printer}
 
--- Fewer bytes than a record has.
+-- The bytes held are fewer than a record has.
 abbrev pub PartOfRecord : ArrayVec ℕ → Type 0
 PartOfRecord held = array_vec_len held < record_length
 
--- Between turns.
+-- What lies between turns.
 abbrev pub between_of : Printer → Between
 between_of p = record { place = place_of p.place; held = p.held.items }
 
@@ -22,7 +22,7 @@ between_of p = record { place = place_of p.place; held = p.held.items }
 abbrev pub brought : List ℕ → Option ℕ → List ℕ → List ℕ
 brought held r block = take (unwrap_or r 0) (drop (length held) block)
 
--- A read brings a block of 1,024 records at most.
+-- Each read has brought at most a block, of 1,024 records.
 abbrev pub BlockPerRead : Printer → Type 0
 BlockPerRead p = (p.place.number ≤ 1024 * p.reads) × (p.bytes ≤ 1024 * record_length * p.reads)
 

@@ -150,7 +150,8 @@ impl Printer {
         ensures same { (self.new.style ≡ self.old.style) × (self.new.held ≡ self.old.held) × (self.new.block ≡ self.old.block) × (self.new.reads ≡ self.old.reads) × (self.new.bytes ≡ self.old.bytes) }
     {
         self.lines.clear();
-        self.place.run(&self.block[..taken], self.style, &mut self.lines);
+        self.place
+            .run(&self.block[..taken], self.style, &mut self.lines);
         if read.is_none() {
             printing::put_end(&mut self.lines, self.style, &self.place.page);
         }

@@ -11,7 +11,7 @@ invariant-loop g l = record {
   reads : l.self.reads ≡ l.counter;
   block_per_read : BlockPerRead l.self;
   part : PartOfRecord l.self.held;
-  came : 0 < l.counter → HasReached l.fn.self.style false l.self;
+  reached : 0 < l.counter → HasReached l.fn.self.style false l.self;
   passed : Passed l.fn.self.style l.self.reads l.self.bytes (between_of l.self);
   streamed : Streamed l.fn.self.style (g.I.Read.remaining l.fn.input) (g.I.Read.remaining l.input) (g.O.Write.contents l.fn.output) (g.O.Write.contents l.output) (between_of l.self);
 }

@@ -6,7 +6,6 @@ use Rattle.tapes.specs.declared.printing.Style.{Style}
 use Rattle.tapes.specs.Blocks.{Place, Turned, turned, with_end, to_take, Turn, turn}
 use Rattle.tapes.specs.Values.{place_of}
 use Rattle.program.specs.Turns.{brought}
-use Rattle.program.specs.declared.Printer.{Printer}
 use Rattle.program.proofs.Printer.turn.Goals as goal
 
 -- Where f bytes of a block are those held and those read, and t of them are taken, the turn is that over the bytes held and read.
@@ -45,6 +44,6 @@ returns-clause-turned g c =
     let filled : c.len.result + c.unwrap_or.result ≡ length held + unwrap_or r 0 = cc in
     let after : c.hold-self.result.items ≡ take (c.len.result + c.unwrap_or.result - c.to_take-taken.result) (drop c.to_take-taken.result took.block) = cc in
     let rest : c.hold-self.result.items ≡ drop c.to_take-taken.result (take (length held + unwrap_or r 0) took.block) =
-        after ∙ rest-of took.block c.to_take-taken.result (c.len.result + c.unwrap_or.result) (omega arith) ∙ ap (λ (k : ℕ). drop c.to_take-taken.result (take k took.block)) filled in
+    after ∙ rest-of took.block c.to_take-taken.result (c.len.result + c.unwrap_or.result) (omega arith) ∙ ap (λ (k : ℕ). drop c.to_take-taken.result (take k took.block)) filled in
     let text : ◌≡◌ {A = Turned} (record { place = place_of took.place; text = took.lines.items }) (with_end c.args.self.now.style (is_none r) (turned c.args.self.now.style (place_of c.args.self.now.place) (take c.to_take-taken.result took.block))) = cc in
     as-turn c.args.self.now.style (is_none r) _ _ held (brought held r took.block) took.block _ _ c.to_take-taken.result (length held + unwrap_or r 0) (joined held took.block (unwrap_or r 0) front) many (omega arith) taken rest text
