@@ -1,12 +1,13 @@
 // What the programs `tape` and `page` share: records from standard input, and what is printed of them to standard output as they come. What can't be read or written is said on standard error.
 #![tactic(auto)]
 
-ghost use Rattle.std.specs.Prelude.{◌+◌, ◌*◌, ◌≤◌, ◌<◌, ◌^◌, ◌≡◌, ◌++◌, Bool, true, false, ℕ, length, take, drop, is_none, unwrap_or, IfOk, IfErr, OnOk, OnErr, IsErrOf, IsNone};
-ghost use Rattle.std.specs.Io.KnownBytes.{Consumes, Appends, Keeps, IsAtEnd};
+ghost use Rattle.std.specs.Prelude.{◌+◌, ◌*◌, ◌≤◌, ◌<◌, ◌^◌, ◌≡◌, ◌++◌, Bool, true, length, take, is_none, unwrap_or, IfOk, IfErr, OnOk, OnErr, IsErrOf, IsNone, Some};
+ghost use Rattle.std.specs.Io.KnownBytes.{Consumes, Appends, IsAtEnd};
 ghost use Rattle.records.specs.Records.{record_length};
 ghost use Rattle.arrayvec.specs.ArrayVec.{array_vec_len};
 ghost use Rattle.tapes.specs.Blocks as Blocks;
 ghost use Rattle.tapes.specs.Values.{place_of};
+ghost use Rattle.program.specs.Failures.{text_of};
 ghost use Rattle.program.specs.Turns.{PartOfRecord, brought, between_of, BlockPerRead, HasReached, PrintsTape};
 
 use arrayvec::ArrayVec;
@@ -59,6 +60,8 @@ pub enum Failure {
 }
 
 impl fmt::Display for Failure {
+    ghost output = { λ f. Some (text_of f) };
+
     fn fmt<W: fmt::Write>(&self, f: &mut fmt::Formatter<W>) -> fmt::Result {
         f.write_str(match self {
             Failure::Input => "standard input can't be read",
@@ -111,14 +114,17 @@ fn hold(rest: &[u8]) -> ArrayVec<u8, HELD>
     ArrayVec::try_from(rest).unwrap()
 }
 
-// A tape while it is printed: where it stands between two turns, with the bytes held from one to the next, which are the first ones of a record that has not all come; the last turn's block and text; and how many reads there were, one in each turn, and how many bytes they brought.
+// A tape while it is printed.
 #[derive(Drop)]
 struct Printer {
     style: Style,
+    // Where it stands between two turns: the place, and the bytes held, the first ones of a record that has not all come.
     place: RouterPlace,
     held: ArrayVec<u8, HELD>,
+    // The last turn's block and text.
     block: [u8; BLOCK],
     lines: ArrayVec<u8, LINES>,
+    // How many reads there were, one in each turn, and how many bytes they brought.
     reads: u64,
     bytes: u64,
 }
@@ -146,8 +152,8 @@ impl Printer {
         ensures turned { ◌≡◌ {A = Blocks.Turned}
             (record { place = place_of self.new.place; text = self.new.lines.items })
             (Blocks.with_end self.old.style (is_none read) (Blocks.turned self.old.style (place_of self.old.place) (take taken self.old.block))) }
-        ensures few { self.new.place.number ≤ self.old.place.number + 1024 }
-        ensures same { (self.new.style ≡ self.old.style) × (self.new.held ≡ self.old.held) × (self.new.block ≡ self.old.block) × (self.new.reads ≡ self.old.reads) × (self.new.bytes ≡ self.old.bytes) }
+        ensures at_most_a_block { self.new.place.number ≤ self.old.place.number + 1024 }
+        ensures others_kept { (self.new.style ≡ self.old.style) × (self.new.held ≡ self.old.held) × (self.new.block ≡ self.old.block) × (self.new.reads ≡ self.old.reads) × (self.new.bytes ≡ self.old.bytes) }
     {
         self.lines.clear();
         self.place
@@ -164,14 +170,16 @@ impl Printer {
         ensures turned { IfOk result (λ r. ◌≡◌ {A = Blocks.Turn}
             (record { left = between_of self.new; text = self.new.lines.items })
             (Blocks.turn self.old.style (is_none r) (between_of self.old) (brought self.old.held.items r self.new.block))) }
-        ensures bytes { IfOk result (λ r. (self.new.bytes ≡ self.old.bytes + unwrap_or r 0) × (array_vec_len self.old.held + unwrap_or r 0 ≤ length self.new.block)) }
+        ensures fits { IfOk result (λ r. array_vec_len self.old.held + unwrap_or r 0 ≤ length self.new.block) }
+        ensures bytes { IfOk result (λ r. self.new.bytes ≡ self.old.bytes + unwrap_or r 0) }
         ensures consumed { IfOk result (λ r. Consumes (I.remaining input.old) (I.remaining input.new) (brought self.old.held.items r self.new.block)) }
         ensures at_end { IfOk result (λ r. IsNone r → IsAtEnd (I.remaining input.new)) }
-        ensures not_read { OnErr result ((between_of self.new ≡ between_of self.old) × (self.new.bytes ≡ self.old.bytes) × (take (array_vec_len self.old.held) self.new.block ≡ self.old.held.items)) }
+        ensures as_before { OnErr result ((between_of self.new ≡ between_of self.old) × (self.new.bytes ≡ self.old.bytes) × (take (array_vec_len self.old.held) self.new.block ≡ self.old.held.items)) }
         ensures err { IfErr result (λ e. e ≡ Failure.Input) }
         ensures part { PartOfRecord self.new.held }
         ensures block_per_read { BlockPerRead self.new }
-        ensures same { (self.new.style ≡ self.old.style) × (self.new.reads ≡ self.old.reads + 1) }
+        ensures style { self.new.style ≡ self.old.style }
+        ensures reads { self.new.reads ≡ self.old.reads + 1 }
     {
         self.reads += 1;
         let read = read_more(input, &self.held, &mut self.block)?;
@@ -211,7 +219,7 @@ impl Printer {
     }
 }
 
-// Prints a tape: the program of that name. Ok where the tape was read to its end and all of it printed; else a line on standard error says, after the name, why not. Where even that can't be written, nothing is left to say.
+// Prints a tape: the program of that name, which may be any bytes, so that it is no `&str`. Ok where the tape was read to its end and all of it printed; else a line on standard error says, after the name, why not. Where even that can't be written, nothing is left to say.
 pub fn print<I: Read, O: Write, E: Write>(
     streams: &mut Streams<I, O, E>,
     name: &[u8],

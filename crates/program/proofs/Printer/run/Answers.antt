@@ -25,13 +25,14 @@ nothing-read style b part =
 module _ (style : Style) (before p : Printer) (passed : Passed style before.reads before.bytes (between_of before)) (sum : p.reads ≡ before.reads + 1) where
   reached-further : (r : Option ℕ) → take (length before.held.items + unwrap_or r 0) p.block ≡ before.held.items ++ brought before.held.items r p.block
       → ◌≡◌ {A = Turn} (record { left = between_of p; text = p.lines.items }) (turn style (is_none r) (between_of before) (brought before.held.items r p.block))
-      → (p.bytes ≡ before.bytes + unwrap_or r 0) × (length before.held.items + unwrap_or r 0 ≤ length p.block) → HasReached style (is_none r) p
-  reached-further r joined e bytes =
+      → length before.held.items + unwrap_or r 0 ≤ length p.block → p.bytes ≡ before.bytes + unwrap_or r 0 → HasReached style (is_none r) p
+  reached-further r joined e fits bytes =
       let filled = length before.held.items + unwrap_or r 0 in
       let read = brought before.held.items r p.block in
       let count : p.bytes ≡ before.bytes + length read = omega (arith, length-take (unwrap_or r 0) (drop (length before.held.items) p.block), length-drop (length before.held.items) p.block) in
       (filled, rw (sum, count) (reached_then passed (is_none r) read (take filled p.block) (between_of p) joined (ap (λ (o : Turn). o.left) e)))
 
+  -- A read that failed.
   reached-again : length before.held.items < record_length → take (length before.held.items) p.block ≡ before.held.items → p.bytes ≡ before.bytes → between_of p ≡ between_of before → HasReached style false p
   reached-again part front bytes same =
       let none : p.bytes ≡ before.bytes + 0 = omega arith in
@@ -55,7 +56,7 @@ returns-in_err-read-clause-stopped g c =
     let a = c.in_err-read.ensures in
     let p = err_from_is_err_and c.from_residual.result c.from_residual.ensures.1 in
     rw (p.1)
-    (false, (λ ended. absurd (true≢false (sym ended))), reached-again c.args.self.now.style c.loop.self c.turn.new.self c.loop.invariant.passed a.same.1 c.loop.invariant.part a.not_read.2 a.not_read.1 a.not_read.0)
+    (false, (λ ended. absurd (true≢false (sym ended))), reached-again c.args.self.now.style c.loop.self c.turn.new.self c.loop.invariant.passed a.reads c.loop.invariant.part a.as_before.2 a.as_before.1 a.as_before.0)
 
 pub returns-then-is_none-clause-printed : goal.returns-then-is_none-clause-printed
 returns-then-is_none-clause-printed g c =
@@ -73,10 +74,10 @@ loop-preserved g c =
     let more = c.if-is_none.ensures in
     let turned = rw (s.invariant.style) at a.turned in
     let reached : HasReached c.args.self.now.style false c.turn.new.self =
-    subst (λ (k : Bool). HasReached c.args.self.now.style k c.turn.new.self) (ap not more) (reached-further c.args.self.now.style s.self c.turn.new.self s.invariant.passed a.same.1 c.in_ok-read.read a.block_after turned a.bytes) in
+    subst (λ (k : Bool). HasReached c.args.self.now.style k c.turn.new.self) (ap not more) (reached-further c.args.self.now.style s.self c.turn.new.self s.invariant.passed a.reads c.in_ok-read.read a.block_after turned a.fits a.bytes) in
     record {
-      style = a.same.0 ∙ s.invariant.style;
-      reads = omega (arith, a.same.1);
+      style = a.style ∙ s.invariant.style;
+      reads = omega (arith, a.reads);
       block_per_read = a.block_per_read;
       part = a.part;
       reached = λ _. reached;
