@@ -5,10 +5,5 @@ use program::Streams;
 use tapes::printing::Style;
 
 fn main(rt: HostRuntime) {
-    let mut streams = Streams {
-        input: rt.stdin(),
-        output: rt.stdout(),
-        errors: rt.stderr(),
-    };
-    program::print(&mut streams, b"page: ", Style::Pages);
+    let _ = program::print(&mut Streams::from(rt), b"page: ", Style::Pages);
 }

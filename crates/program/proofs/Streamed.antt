@@ -1,12 +1,12 @@
 -- What went in and out over the turns made so far, where the reader and the writer say which bytes they have: each turn goes on where the last one stopped, so at the input's end the texts are what is printed of the whole tape.
-use Rattle.std.proofs.Common.{ℕ, ◌≡◌, Bool, List, [], ◌∷◌, ◌++◌, None, Some, IfSome, sym, ap, ◌∙◌, subst, append-nil, append_assoc, true, false}
+use Rattle.std.proofs.Common.{ℕ, ◌≡◌, Bool, List, [], ◌∷◌, ◌++◌, None, Some, IfSome, sym, ap, ◌∙◌, subst, append-nil, true, false}
 use mathlib.Core.List.{flatten}
 use Rattle.std.specs.declared.option.Option.{Option}
 use Rattle.std.specs.Io.KnownBytes.{Consumes, Appends, IsAtEnd}
 use Rattle.std.proofs.KnownBytes.{Consumes-nil, Consumes-trans, Appends-nil, Appends-trans}
 use Rattle.tapes.specs.declared.printing.Style.{Style}
 use Rattle.tapes.specs.Blocks.{Between, unread, Turn, turn, looped, ReadsPrintTheTape}
-use Rattle.tapes.proofs.Blocks.{reads_print_the_tape}
+use Rattle.tapes.proofs.Blocks.{looped-then, flatten-then, reads_print_the_tape}
 use Rattle.program.specs.Turns.{PrintsTape}
 
 -- Turns before the input's end, over reads that took from `tape` what is not in `left`, have put their texts after `before`, which makes `after`.
@@ -19,22 +19,6 @@ pub record Streamed (style : Style) (tape left before after : Option (List ℕ))
 pub streamed_none : (style : Style) (tape before : Option (List ℕ)) (b : Between) → b ≡ unread → Streamed style tape tape before before b
 unfolding looped flatten
 streamed_none style tape before b e = record { reads = []; between = e; consumed = Consumes-nil tape; written = Appends-nil before }
-
--- A turn after others.
-looped-then : (style : Style) (b : Between) (reads : List (List ℕ)) (read : List ℕ)
-    → ◌≡◌ {A = Turn} (looped style b (reads ++ (read ∷ []))) (record { left = (turn style false (looped style b reads).left read).left; text = (looped style b reads).text ++ (turn style false (looped style b reads).left read).text })
-unfolding looped
-looped-then style b [] read = ap (λ (t : List ℕ). record { left = (turn style false b read).left; text = t }) (append-nil (turn style false b read).text)
-looped-then style b (x ∷ xs) read =
-    let o = turn style false b x in
-    let rest = looped style o.left xs in
-    ap (λ (t : Turn). record { left = t.left; text = o.text ++ t.text }) (looped-then style o.left xs read)
-    ∙ ap (λ (t : List ℕ). record { left = (turn style false rest.left read).left; text = t }) (sym (append_assoc o.text rest.text (turn style false rest.left read).text))
-
-flatten-then : (reads : List (List ℕ)) (read : List ℕ) → flatten (reads ++ (read ∷ [])) ≡ flatten reads ++ read
-unfolding flatten
-flatten-then [] read = append-nil read
-flatten-then (x ∷ xs) read = rw (flatten-then xs read, append_assoc x (flatten xs) read)
 
 pub streamed_then : {style : Style} {tape left before after : Option (List ℕ)} {b : Between} → Streamed style tape left before after b
     → (ended : Bool) (read text : List ℕ) (q : Between) (next more : Option (List ℕ)) → ended ≡ false → ◌≡◌ {A = Turn} (record { left = q; text = text }) (turn style ended b read) → Consumes left next read → Appends after more text

@@ -5,10 +5,5 @@ use program::Streams;
 use tapes::printing::Style;
 
 fn main(rt: HostRuntime) {
-    let mut streams = Streams {
-        input: rt.stdin(),
-        output: rt.stdout(),
-        errors: rt.stderr(),
-    };
-    program::print(&mut streams, b"tape: ", Style::Lines);
+    let _ = program::print(&mut Streams::from(rt), b"tape: ", Style::Lines);
 }

@@ -12,7 +12,7 @@ use Rattle.events.proofs.Joined.{after-joined}
 use Rattle.pages.specs.Printing.{Paged}
 use Rattle.tapes.specs.declared.printing.Style.{Style}
 use Rattle.tapes.specs.Printed.{print_events, print_end}
-use Rattle.tapes.specs.Blocks.{Between, unread, turned, with_end, to_take, turn, looped, ReadsPrintTheTape, Reached, NoByteLost}
+use Rattle.tapes.specs.Blocks.{Between, unread, turned, with_end, to_take, Turn, turn, looped, ReadsPrintTheTape, Reached, NoByteLost}
 use Rattle.tapes.proofs.Texts.{print-append, all-printed}
 
 -- ---- reads
@@ -72,12 +72,18 @@ no_byte_lost style ended turns bytes block b r k =
 
 -- ---- the loop, turn after turn
 
-looped-then : (style : Style) (b : Between) (reads : List (List ℕ)) (read : List ℕ) → (looped style b (reads ++ (read ∷ []))).left ≡ (turn style false (looped style b reads).left read).left
+-- A turn after others.
+pub looped-then : (style : Style) (b : Between) (reads : List (List ℕ)) (read : List ℕ)
+    → ◌≡◌ {A = Turn} (looped style b (reads ++ (read ∷ []))) (record { left = (turn style false (looped style b reads).left read).left; text = (looped style b reads).text ++ (turn style false (looped style b reads).left read).text })
 unfolding looped
-looped-then style b [] read = refl
-looped-then style b (x ∷ xs) read = looped-then style (turn style false b x).left xs read
+looped-then style b [] read = ap (λ (t : List ℕ). record { left = (turn style false b read).left; text = t }) (append-nil (turn style false b read).text)
+looped-then style b (x ∷ xs) read =
+    let o = turn style false b x in
+    let rest = looped style o.left xs in
+    ap (λ (t : Turn). record { left = t.left; text = o.text ++ t.text }) (looped-then style o.left xs read)
+    ∙ ap (λ (t : List ℕ). record { left = (turn style false rest.left read).left; text = t }) (sym (append_assoc o.text rest.text (turn style false rest.left read).text))
 
-flatten-then : (reads : List (List ℕ)) (read : List ℕ) → flatten (reads ++ (read ∷ [])) ≡ flatten reads ++ read
+pub flatten-then : (reads : List (List ℕ)) (read : List ℕ) → flatten (reads ++ (read ∷ [])) ≡ flatten reads ++ read
 unfolding flatten
 flatten-then [] read = append-nil read
 flatten-then (x ∷ xs) read = rw (flatten-then xs read, append_assoc x (flatten xs) read)
@@ -98,7 +104,7 @@ passed_on {style} r going = record {
   reads = r.reads ++ (r.last ∷ []);
   each = length-append r.reads (r.last ∷ []) ∙ r.each;
   all = ap length (flatten-then r.reads r.last) ∙ r.all;
-  left = r.left ∙ rw going (sym (looped-then style unread r.reads r.last));
+  left = r.left ∙ rw going (sym (ap (λ (t : Turn). t.left) (looped-then style unread r.reads r.last)));
 }
 
 -- A turn more.
