@@ -1,6 +1,5 @@
 -- `Router::fresh` meets its contract. The loop's invariant: the bytes have the stack's entries below `i`. The measure is what is left of 256.
 -- With all of them the bytes are the fresh state, by computation. Assumes nothing.
-use Prim.Native.Nat.{◌-◌}
 use mathlib.Core.Path.{◌≡◌, refl, ◌∙◌}
 use native.Mathlib.Numerals.{add-one}
 use native.Mathlib.Omega.{arith}
