@@ -43,7 +43,8 @@ impl From<Grant> for u8 {
     }
 }
 
-// Two keys and an address as the digits of a number. Not `u32::from_be_bytes`: it takes an instruction more of each slot, and `tick-256-idle` then 19,300, where plain C's takes 19,230.
+// Two keys and an address as the digits of a number.
+// Not `u32::from_be_bytes`: by it `tick-256-idle` of docs/BENCH.md took 19,314 instructions, plain C's takes 19,230.
 fn digits(key: u8, second: u8, s: SlotAddress) -> u32
     ensures { result ≡ (key * 256 + second) * 256 + s.0 }
 {
@@ -115,7 +116,11 @@ fn bound(waits: bool, ahead: u32) -> u32
 fn unsent(waits: bool) -> Grant
     ensures { grant_of result ≡ cond waits best_effort nobody }
 {
-    if waits { Grant::BestEffort } else { Grant::Nobody }
+    if waits {
+        Grant::BestEffort
+    } else {
+        Grant::Nobody
+    }
 }
 
 // Who has a port, by its least rank.
