@@ -12,9 +12,9 @@ use lib.Seq.{sets, get_or-set_other, get_or-drop}
 use lib.Dec.{eqb, leb, ltb}
 use borrow.Author.Tests.{leb-true}
 use Rattle.rules.specs.Clock.{plus}
-use Rattle.rules.specs.Areas.{Store, Bytes, byte, bits, packet, stamp, has, without, Grant, nobody, best_effort, on_time, early}
+use Rattle.rules.specs.Areas.{Store, byte, bits, packet, stamp, has, without, Grant, nobody, best_effort, on_time, early}
 use Rattle.rules.specs.Board.{Field, Horizon, Latch, Idle, Time, Deadline, Mask, Outgoing, Delay, Routes, clock, free, table8, board8}
-use Rattle.rules.specs.Questions.{fresh, written, commit_horizon, tick}
+use Rattle.rules.specs.Questions.{fresh, written, commit_horizon}
 use Rattle.rules.specs.Tick as Tick
 use Rattle.rules.proofs.FieldBytes.{get-one, put_one, put_two, stamp-one, packed-one}
 use Rattle.rules.proofs.Booleans.{and_left}

@@ -18,7 +18,6 @@ use Rattle.rules.specs.Board.{clock, board8}
 use Rattle.rules.specs.Questions.{control_write, control_refusal, tick as tick_entry, tick_refusal, written}
 use Rattle.rules.specs.Tick as Tick
 use Rattle.rules.specs.Whole.{TickCall}
-use Rattle.rules.specs.Calls.{control, tick}
 use Rattle.rules.specs.Demand3.{byte_step}
 use Rattle.rules.proofs.Booleans.{and_left, and_right, beq-eq, some_inj, none-some}
 use Rattle.rules.proofs.IndexLaws.{all-at}
@@ -28,7 +27,7 @@ use Rattle.rules.proofs.FieldBytes.{packet-byte}
 use Rattle.rules.proofs.Theorem.{layout}
 use Rattle.records.specs.Records.{blank_part, record_refusal, kind_refusal, unused_refusal, arrival_refusal}
 use Rattle.records.proofs.Refusals.{blank-empty, blank-first}
-use Rattle.events.specs.Tape.{Tape, nothing, refused, ticked, Taken, after_control, after_tick, take_control, take_arrival, take_tick, take_record}
+use Rattle.events.specs.Tape.{Tape, refused, Taken, after_control, after_tick, take_control, take_arrival, take_tick, take_record}
 use Rattle.text.specs.Characters.{NoFeed, cut_from}
 use Rattle.text.specs.Lines.{tick_text, tick_line, refused_line}
 use Rattle.text.proofs.Characters.{cut_line, no-feed-tick-text}
