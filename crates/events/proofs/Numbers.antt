@@ -1,5 +1,5 @@
 -- No refusal has the number 0. Assumes nothing.
-use Rattle.std.proofs.Common.{◌≡◌, ℕ, false, eqb, refl, sym, Result, Ok, Err, IsOk}
+use Rattle.std.proofs.Common.{◌≡◌, false, eqb, refl, sym, Result, Ok, Err, IsOk}
 use Rattle.layout.specs.Numbers as Calls
 use Rattle.layout.specs.declared.Refusal as CallRefusal
 use Rattle.layout.specs.declared.Refusal.TheVariants.{Lengths, Settings, Stack, Packets, Masks, Register, Value, Queues}

@@ -3,15 +3,13 @@ use Prim.Native.Nat.{ℕ}
 use mathlib.Core.Path.{◌≡◌, refl, ap}
 use mathlib.Core.Bool.{Bool, true, false, cond}
 use mathlib.Core.List.{List}
-use native.Mathlib.Omega.{arith}
-use lib.ListN.{length, replicate, drop_of_length-le}
-use lib.Seq.{sets, sets-eq}
+use lib.ListN.{length, replicate}
 use lib.Dec.{eqb}
-use Rattle.rules.specs.Areas.{Store, number_reply, memory_length, arrivals_length, outgoing_length, answers_length, byte, areas_full, Outcome}
+use Rattle.rules.specs.Areas.{Store, number_reply, memory_length, outgoing_length, answers_length, byte, areas_full, Outcome}
 use Rattle.rules.specs.Board.{board8}
 use Rattle.rules.specs.Tick as Tick
 use Rattle.rules.specs.Questions.{full, fresh, make_fresh, tick, tick_refusal}
-use Rattle.events.specs.Tape.{Tape, start, after_tick, take_tick}
+use Rattle.events.specs.Tape.{Tape, after_tick, take_tick}
 
 -- A tick's number, and so what the tape makes of its outcome, doesn't depend on what outgoing and answers hold.
 module _ (σ : Tape) (k : ℕ) (r out ans : List ℕ) (lo : length out ≡ outgoing_length) (la : length ans ≡ answers_length) where

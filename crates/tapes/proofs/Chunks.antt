@@ -1,5 +1,5 @@
 -- A block's chunks are its records: the first chunk of what is left is its first record, and leaves what follows that. Assumes nothing.
-use Rattle.std.proofs.Common.{◌≡◌, ℕ, min, ◌+◌, ◌≤◌, List, [], ◌++◌, length, take, drop, sym, ap, ◌∙◌, arith, append-nil, length-append, inl, inr, take_all, take_at, drop_at}
+use Rattle.std.proofs.Common.{◌≡◌, ℕ, min, ◌+◌, List, [], ◌++◌, length, take, drop, sym, ap, ◌∙◌, arith, append-nil, length-append, inl, inr, take_all, take_at, drop_at}
 use Rattle.std.proofs.lemmas.Bool.{cases_lt}
 use Rattle.std.proofs.lemmas.List.{nil_from_length, drop_all}
 

@@ -1,6 +1,6 @@
 -- `run` meets its contract (see Invariants). Assumes nothing.
 use Rattle.std.proofs.Common.{◌≡◌, ◌+◌, ◌*◌, [], ◌∷◌, length, take, drop, refl, sym, ap, ◌∙◌, arith, rules, append-nil, length-append, length-drop, drop-drop}
-use Rattle.std.specs.Slice.Iter.{chunks_rest, chunks_size}
+use Rattle.std.specs.Slice.Iter.{chunks_rest}
 use Rattle.records.specs.Records.{record_length, records_in, record_at}
 use Rattle.events.specs.Tape.{after}
 use Rattle.pages.specs.Printing.{in_order}
