@@ -1,7 +1,7 @@
 -- A pass over the idle-address stack that marks the slots it meets, for any board: an entry is new just if its slot isn't marked. Assumes nothing.
 use Prim.Native.Nat.{ℕ, suc, ◌+◌, ◌<◌, ◌≤◌}
 use mathlib.Core.Path.{◌≡◌, refl, sym, ap, ◌∙◌}
-use mathlib.Core.Bool.{Bool, true, false, not, ◌&&◌, ◌||◌}
+use mathlib.Core.Bool.{Bool, true, false, not, ◌&&◌, ◌||◌, and_comm}
 use mathlib.Core.List.{List}
 use native.Mathlib.Decide.{ℕ_discrete, dec_lt}
 use native.Mathlib.Numerals.{add-one}
@@ -49,11 +49,11 @@ module _ (B : Board) (s : List ℕ) where
         go (yes m) = M.slots j m
         go (no m) = let q : j ≡ i = omega arith in let k = ap (λ (x : ℕ). get s (Idle, x)) q in omega arith
 
-    different-next : (not (get_or seen a false) && d) ≡ distinct (entries B s (suc i))
+    different-next : (d && not (get_or seen a false)) ≡ distinct (entries B s (suc i))
     unfolding top_first distinct
-    different-next = rw (M.marks a h, M.different, e)
+    different-next = and_comm d (not (get_or seen a false)) ∙ rw (M.marks a h, M.different, e)
 
-    pub marked_next : Marked B s (i + 1) (set seen a true) (not (get_or seen a false) && d)
+    pub marked_next : Marked B s (i + 1) (set seen a true) (d && not (get_or seen a false))
     marked_next = rw (add-one i) (record {
       sized = length-set seen a true ∙ M.sized;
       marks = marks-next;

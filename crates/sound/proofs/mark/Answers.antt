@@ -1,6 +1,4 @@
 -- `sound::mark` meets its contract. The loop's invariant: `Marked` of the entries passed. Assumes nothing.
-use mathlib.Core.Bool.{false, not, and_comm}
-use lib.ListN.{get_or}
 use Rattle.passes.proofs.StackMarks.{marked-none, marked_next}
 use Rattle.sound.proofs.mark.Goals as goal
 
@@ -8,4 +6,4 @@ pub loop-i-init : goal.loop-i-init
 loop-i-init c = marked-none _ _ _ c.requires.1
 
 pub loop-i-preserved : goal.loop-i-preserved
-loop-i-preserved c = rw (and_comm c.loop-i.distinct (not (get_or c.loop-i.seen c.get-a.result false))) (marked_next _ _ c.loop-i.i c.get-a.result c.get-a.ensures c.get-a.type_inv c.loop-i.seen c.loop-i.distinct c.loop-i.invariant)
+loop-i-preserved c = marked_next _ _ c.loop-i.i c.get-a.result c.get-a.ensures c.get-a.type_inv c.loop-i.seen c.loop-i.distinct c.loop-i.invariant
