@@ -28,18 +28,19 @@ module _ (n : ℕ) (test : ℕ → Bool) where
   at : (P : ℕ → Type 0) (k : ℕ) → k < n → HoldsAt P (range_with_len 0 n) k → P k
   at P k l h = subst P (get_or-range_with_len 0 n k 0 l ∙ omega arith) (h 0)
 
+  -- An index whose test fails fails the test of all.
+  pub fails-at : (i : ℕ) → i < n → test i ≡ false → false ≡ all n test
+  fails-at i l f = go (all n test) refl
+    where
+      go : (a : Bool) → all n test ≡ a → false ≡ all n test
+      go true e = absurd (true≢false (sym (all-at test n i e l) ∙ f))
+      go false e = sym e
+
   -- Every test holds, or one fails.
   answer : (r : Bool) → MatchBool r (AllWithin (λ x. x < n → true ≡ test x) (range_with_len 0 n) 0 (length (range_with_len 0 n))) ((k : ℕ) × (k < length (range_with_len 0 n)) × HoldsAt (λ x. x < n → false ≡ test x) (range_with_len 0 n) k)
       → r ≡ all n test
   answer true h = sym (all_true test n (λ i l. sym (at (λ x. x < n → true ≡ test x) i l (λ d. h i d (omega arith) (omega (arith, length-range_with_len 0 n))) l)))
-  answer false (k, l, h) = go (all n test) refl
-    where
-      inside : k < n
-      inside = omega (arith, length-range_with_len 0 n)
-
-      go : (a : Bool) → all n test ≡ a → false ≡ all n test
-      go true e = absurd (true≢false (sym (all-at test n k e inside) ∙ sym (at (λ x. x < n → false ≡ test x) k inside h inside)))
-      go false e = sym e
+  answer false (k, l, h) = let inside : k < n = omega (arith, length-range_with_len 0 n) in fails-at k inside (sym (at (λ x. x < n → false ≡ test x) k inside h inside))
 
   -- The closure, f, is left as it was and answers as the test at each index below n.
   pub all-by_range : {F : Type 0} {g : Mut F (ℕ × Unit {0}) Bool} {s u : Range ℕ} {f : F} {r : Bool}

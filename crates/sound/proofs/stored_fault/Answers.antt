@@ -17,9 +17,9 @@ pub returns-then-n-gt256-clause-number : goal.returns-then-n-gt256-clause-number
 unfolding asked stack_sound
 returns-then-n-gt256-clause-number c = grind (arith, nat_tests)
 
-pub returns-in_err-seen-clause-number : goal.returns-in_err-seen-clause-number
+pub returns-then-not-mark-clause-number : goal.returns-then-not-mark-clause-number
 unfolding asked stack_sound stack
-returns-in_err-seen-clause-number c = grind (arith, nat_tests)
+returns-then-not-mark-clause-number c = grind (arith, nat_tests)
 
 pub slots_fault-requires : goal.slots_fault-requires
 unfolding stack
@@ -30,5 +30,5 @@ unfolding asked stack_sound stack
 returns-clause-number c = grind (arith, nat_tests)
 
 pub returns-clause-room : goal.returns-clause-room
-returns-clause-room c = on_accepted c.slots_fault.result (λ accepted. marked-has-room board8 lawful8 c.args.state.now _ _ c.free_count-n.ensures (omega arith) c.in_ok-seen.ensures.marked
+returns-clause-room c = on_accepted c.slots_fault.result (λ accepted. marked-has-room board8 lawful8 c.args.state.now _ _ c.free_count-n.ensures (omega arith) (rw c.if-not-mark.false at c.mark.ensures)
     (asked-passed (all 256 (listed board8 c.args.state.now)) 13 _ (sym c.slots_fault.ensures ∙ accepted)).0)
