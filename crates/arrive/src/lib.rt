@@ -91,6 +91,7 @@ fn store_packet(
 }
 
 // The accepted packet takes the top idle address.
+// State and memory stay two parameters, here and below: the C interface lends them apart, and a struct of both would be built in each entry for these calls alone.
 fn place(state: &mut State, memory: &mut Memory, packet: &Packet)
     requires { 0 < board8.get state.old free }
     ensures after { store state.new memory.new ≡ placed board8 (store state.old memory.old) packet.now }

@@ -1,3 +1,2 @@
-pub mod FiveGrants
 pub mod SlotKeys
 pub mod Lines

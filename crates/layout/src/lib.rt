@@ -305,7 +305,7 @@ pub fn has_port(mask: u8, port: Port) -> bool
 }
 
 // Changes by f the cell of each port in the mask, the lowest port first.
-// Not a `for` over the five cells with a test of the port: `tick-256-idle` of docs/BENCH.md took 21,874 instructions by it, plain C's takes 19,230, and this 18,784.
+// Not a `for` over the five cells with a test of the port: `tick-256-idle` of docs/BENCH.md took 21,874 instructions by it, plain C's takes 19,230, and this 18,802.
 pub fn change_ports<T: Copy, F: Fn(T) -> T>(cells: &mut [T; Router::PORTS], mask: u8, f: F)
     requires ports { mask < 32 }
     requires callable { (p : ℕ) (x : T) → p < 5 → IsTrue (has mask p) → F.pre f (slice_index_or cells.old p x) }

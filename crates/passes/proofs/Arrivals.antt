@@ -1,5 +1,5 @@
 -- Step 1 of a tick, arrivals, for any lawful board: the code's reads are those of questions 6 to 8, its stores those of a packet placed, and the ports follow each other. Assumes nothing.
-use Prim.Native.Nat.{ℕ, suc, ◌+◌, ◌-◌, ◌*◌, ◌<◌, ◌≤◌}
+use Prim.Native.Nat.{ℕ, ◌+◌, ◌-◌, ◌*◌, ◌<◌, ◌≤◌}
 use mathlib.Core.Path.{◌≡◌, refl, sym, ap, subst, ◌∙◌}
 use mathlib.Core.Bool.{Bool, true, false, cond, not}
 use mathlib.Core.List.{List, [], ◌∷◌}
@@ -12,11 +12,11 @@ use lib.IntN.{pos, neg_ℤ}
 use lib.Signed.{le_z}
 use borrow.Author.Tests.{eqb-false, eq-eqb}
 use Rattle.rules.specs.Clock.{plus, offset}
-use Rattle.rules.specs.Areas.{Store, packet_length, byte, bits, packet, stamp, payload, packed, has, ports_below, per_port, asked, arrival_questions, arrival_answer}
+use Rattle.rules.specs.Areas.{Store, packet_length, byte, bits, packet, stamp, payload, packed, has, ports_below, asked, arrival_questions, arrival_answer}
 use Rattle.rules.specs.Board.{Board, Idle, Time, Deadline, Mask, Outgoing, Delay, Routes, clock, free}
 use Rattle.rules.specs.Tick.{arrival_refusal, arrival, placed, admitted, arrived}
 use Rattle.passes.specs.Room.{used}
-use Rattle.rules.proofs.AreaLaws.{filled, filled_next, filled-all}
+use Rattle.rules.proofs.AreaLaws.{filled}
 use Rattle.rules.proofs.BoardLaws.{Laws}
 use Rattle.rules.proofs.Booleans.{not-false}
 use Rattle.passes.proofs.Packets.{filled-number}
@@ -135,7 +135,3 @@ module _ (B : Board) where
       answered = rw (A.answered, ea, ek, A.after) (filled-number (met B r arriving area) (replicate 5 0) p (omega arith));
       room = λ u. room (A.room u);
     })
-
-    -- After all five.
-    pub arrived-all : {r' : Store} {l : List ℕ} → ArrivedBelow 5 r' l → l ≡ per_port (λ q. met B r arriving area q ∷ [])
-    arrived-all A = A.answered ∙ filled-all 1 (λ q. met B r arriving area q ∷ []) (replicate 5 0) 5 refl

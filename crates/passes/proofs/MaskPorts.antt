@@ -1,24 +1,19 @@
 -- Ports of any mask: a mask has those of its five low bits, and the numbers of its ports, changed, are those of a definition. Assumes nothing.
 use Prim.Native.Nat.{ℕ, zero, suc, ◌+◌, ◌-◌, ◌*◌, ◌/◌, ◌%◌, ◌^◌, ◌<◌, ◌≤◌}
 use mathlib.Core.Path.{◌≡◌, refl, sym, ap, ◌∙◌}
-use mathlib.Core.Bool.{Bool, true, false, cond, ◌&&◌, ◌||◌}
+use mathlib.Core.Bool.{Bool, true, false, cond}
 use mathlib.Core.List.{List, [], ◌∷◌}
 use mathlib.Core.Logic.{◌≢◌}
-use native.Mathlib.Decide.{ℕ_discrete, dec_lt}
+use native.Mathlib.Decide.{dec_lt}
 use native.Mathlib.Nat.{div-eq_of_lt}
 use native.Mathlib.Omega.{arith}
-use lib.Bits.{bit_and}
-use lib.Count.{count_trailing_zeros}
-use lib.Dec.{eqb, ltb}
-use lib.ListN.{length, get_or, set}
-use lib.Seq.{get_or-set_same, get_or-set_other, ext_get_or}
-use borrow.Author.Tests.{ne_eqb, eqb-true, ltb-true}
-use Rattle.rules.specs.Order.{all}
+use lib.Dec.{eqb}
+use lib.ListN.{length, get_or}
+use lib.Seq.{ext_get_or}
+use borrow.Author.Tests.{eqb-true}
 use Rattle.rules.specs.Areas.{has, without, ports_below, per_port}
 use Rattle.rules.proofs.AreaLaws.{length-ports_below}
-use Rattle.rules.proofs.Booleans.{and_left, and_right}
-use Rattle.rules.proofs.IndexLaws.{all-at}
-use Rattle.rules.proofs.Masks.{has-zero, has-without-same, has-without-other}
+use Rattle.rules.proofs.Masks.{has-without-other}
 use Rattle.passes.specs.Ports.{EachPort, changed}
 
 -- ---- the five low bits

@@ -1,9 +1,8 @@
 -- `arrive::admit` meets its contract: the answer is that of the refusal, and only what no question refuses is placed. Assumes nothing.
 use mathlib.Core.Bool.{cond}
-use mathlib.Core.Path.{◌≡◌, refl, ◌∙◌}
+use mathlib.Core.Path.{◌≡◌, refl}
 use lib.Dec.{eqb}
-use Prim.Native.Nat.{ℕ}
-use Rattle.std.specs.Prelude.{Option, Some, Result, Ok, Err, OnOk, OnErr}
+use Rattle.std.specs.Prelude.{Some, Result, Ok, Err, OnOk, OnErr}
 use Rattle.rules.specs.Areas.{Store, arrival_answer}
 use Rattle.rules.specs.Tick.{arrival}
 use Rattle.arrive.specs.declared.Refused.{Refused}

@@ -1,8 +1,5 @@
 -- `arrive::meets` meets its contract: at each return the questions asked so far decide what refuses. Assumes nothing.
-use mathlib.Core.Path.{◌≡◌, refl}
-use lib.Dec.{eqb}
-use mathlib.Core.Bool.{false}
-use native.Mathlib.Omega.{arith}
+use mathlib.Core.Path.{refl}
 use borrow.Author.Tests.{eq-eqb, ne_eqb}
 use Rattle.rules.specs.Board.{board8}
 use Rattle.passes.proofs.Arrivals.{closed-read, refusal-read}

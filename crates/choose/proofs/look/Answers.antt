@@ -1,7 +1,6 @@
 -- `choose::look` meets its contract: a slot without a port is ineligible on each and changes no least rank, and any other is offered to its ports. Assumes nothing.
 use Rattle.passes.proofs.Ranks.{bests-suc, bests-none}
 use Rattle.choose.proofs.Lines.{offered-none, offered-some}
-use Rattle.passes.specs.Ports.{EachPort, changed}
 use Rattle.passes.specs.Ranks.{lesser}
 use Rattle.passes.proofs.MaskPorts.{each-changed}
 use Rattle.rules.specs.Board.{board8}

@@ -6,8 +6,7 @@ use Rattle.passes.proofs.Ranks.{bests-start, best-empty}
 use Rattle.rules.specs.Areas.{bits}
 use Rattle.rules.specs.Board.{board8}
 use mathlib.Core.Path.{◌≡◌}
-use Prim.Native.Nat.{ℕ, ◌-◌}
-use borrow.Author.Rules.{rules}
+use Prim.Native.Nat.{ℕ}
 use native.Mathlib.Omega.{arith}
 use Rattle.choose.proofs.scan.Goals as goal
 

@@ -1,13 +1,10 @@
 -- `layout::change_ports` meets its contract. The loop's invariant: the ports that aren't left have their cells changed. The measure is the mask of the ports left. Assumes nothing.
-use Prim.Native.Nat.{ℕ, ◌<◌}
-use mathlib.Core.Path.{◌≡◌, sym, subst, ◌∙◌}
-use mathlib.Core.List.{List}
-use native.Mathlib.Omega.{arith}
+use Prim.Native.Nat.{◌<◌}
 use lib.Count.{count_trailing_zeros}
-use lib.ListN.{length, get_or}
+use lib.ListN.{length}
 use Rattle.std.proofs.Common.{of_calls}
 use Rattle.std.proofs.lemmas.List.{get_or_default}
-use Rattle.layout.proofs.LowestPort.{Changed, lowest-port, has-lowest, changed-none, changed-lowest, changed-all, lowest-waits}
+use Rattle.layout.proofs.LowestPort.{lowest-port, has-lowest, changed-none, changed-lowest, changed-all, lowest-waits}
 use Rattle.layout.proofs.change_ports.Goals as goal
 
 pub loop-left-init : goal.loop-left-init

@@ -2,7 +2,7 @@
 use Rattle.passes.specs.Settling.{settled, missed}
 use Rattle.passes.proofs.EmptySlots.{to_end}
 use Rattle.passes.proofs.MaskPorts.{each-as}
-use Rattle.passes.proofs.Settling.{length-settled, settled-room, settled-keeps-mask, settled-turn, settled-empty, missed-turn, missed-few, missed-empty}
+use Rattle.passes.proofs.Settling.{settled-room, settled-keeps-mask, settled-turn, settled-empty, missed-turn, missed-few, missed-empty}
 use Rattle.rules.specs.Board.{board8}
 use Rattle.rules.specs.Order.{count}
 use Rattle.rules.proofs.Board8Laws.{lawful8}
@@ -10,7 +10,6 @@ use lib.ListN.{get_or-replicate}
 use native.Mathlib.Numerals.{add-one}
 use mathlib.Core.Path.{◌≡◌, refl, ap, ◌∙◌}
 use Prim.Native.Nat.{ℕ}
-use borrow.Author.Rules.{rules}
 use native.Mathlib.Omega.{arith}
 use Rattle.settle.proofs.settle.Goals as goal
 

@@ -2,9 +2,7 @@
 use Rattle.passes.specs.Ports.{EachPort}
 use Rattle.passes.specs.Settling.{settled, missed}
 use Rattle.rules.specs.Board.{board8}
-use lib.ListN.{length}
 use mathlib.Core.Path.{◌≡◌}
-use Prim.Native.Nat.{◌-◌, ◌≤◌}
 use Rattle.settle.proofs.settle.Given as goal
 
 abbrev pub invariant-loop-i : goal.invariant-loop-i
