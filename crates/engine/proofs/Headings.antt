@@ -1,11 +1,9 @@
 -- A port's choice by its queues: the first that waits for the port, read from a queue's bytes; and whom the two first ones grant the port. Assumes nothing.
-use Prim.Native.Nat.{ℕ, ◌+◌, ◌<◌}
-use mathlib.Core.Path.{◌≡◌, refl, sym, subst}
+use Prim.Native.Nat.{ℕ, ◌<◌}
+use mathlib.Core.Path.{◌≡◌, refl, sym}
 use mathlib.Core.Bool.{Bool, true, false, cond}
 use mathlib.Core.List.{List}
 use mathlib.Core.Option.{Option, none, some}
-use native.Mathlib.Decide.{dec_lt}
-use native.Mathlib.Omega.{arith}
 use lib.Dec.{leb}
 use lib.IntN.{pos}
 use Rattle.std.specs.Prelude as Slots
@@ -13,11 +11,10 @@ use Rattle.std.specs.Bool.{then_some}
 use Rattle.std.specs.Option.{MatchOption}
 use Rattle.layout.specs.declared.SlotAddress.{SlotAddress}
 use Rattle.table1.specs.Firsts.{slot_of}
-use Rattle.rules.specs.Areas.{has, Grant, nobody, best_effort, on_time, early}
+use Rattle.rules.specs.Areas.{has, nobody, best_effort, on_time, early}
 use Rattle.rules.specs.Board.{Horizon, Mask, board8}
 use Rattle.rules.specs.Tick.{slot_key}
 use Rattle.rules.proofs.Booleans.{some_inj, none-some}
-use Rattle.passes.specs.Sends.{Winner}
 use Rattle.queues.specs.Area.{queue}
 use Rattle.queues.specs.Engine.{first, heading, table_grant, queue_grant}
 

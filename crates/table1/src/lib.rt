@@ -160,7 +160,10 @@ fn sent_port(queues: &mut Queues, g: Grant, port: Port)
 pub fn sent(queues: &mut Queues, grants: [Grant; Router::PORTS])
     ensures { queues.new ≡ Engine.each_port (λ p. Engine.sent_from (grant_at grants p) p) 5 queues.old }
 {
-    each_port(queues, |queues, port| sent_port(queues, grants[port.index as usize], port));
+    each_port(
+        queues,
+        |queues, port| sent_port(queues, grants[port.index as usize], port),
+    );
 }
 
 // Step 4 for one port.
