@@ -50,9 +50,9 @@ module _ (s q : List ℕ) (sized : length q ≡ queues_length) (n m : ℕ) (e : 
 
 module _ (b : Bench) (n : ℕ) (e : n ≡ number b.queues ((full board8 b.store, 1) ∷ sound_questions board8 15 b.store)) where
   -- A refusal alters nothing.
-  pub fill-refused : n ≢ 0 → ◌≡◌ {A = Outcome Bench} (record { reply = number_reply n; after = b }) (fill board8 b)
+  pub fill-refused : n ≢ 0 → (q : List ℕ) → q ≡ b.queues → ◌≡◌ {A = Outcome Bench} (record { reply = number_reply n; after = record { store = b.store; queues = q } }) (fill board8 b)
   unfolding fill number
-  fill-refused h = rw (← e, ne_eqb n 0 h)
+  fill-refused h q kept = rw (← e, ne_eqb n 0 h, kept)
 
   -- With 0 the queues are filled.
   pub fill-accepted : n ≡ 0 → (q : List ℕ) → q ≡ filled board8 b.store.state 256 → ◌≡◌ {A = Outcome Bench} (record { reply = number_reply n; after = record { store = b.store; queues = q } }) (fill board8 b)
@@ -77,9 +77,10 @@ module _ (b : Bench) (register v n : ℕ) (e : n ≡ number b.queues (routers b.
 
 module _ (b : Bench) (arriving waiting : ℕ) (area out ans : List ℕ) (n : ℕ) (e : n ≡ number b.queues (routers b.store.state b.queues (tick_refusal board8 b.store arriving waiting area out ans))) where
   -- A refusal alters nothing.
-  pub tick-refused : n ≢ 0 → ◌≡◌ {A = Outcome Bench} (record { reply = record { number = n; outgoing = out; answers = ans }; after = b }) (tick board8 b arriving waiting area out ans)
+  pub tick-refused : n ≢ 0 → (s q : List ℕ) → s ≡ b.store.state → q ≡ b.queues
+      → ◌≡◌ {A = Outcome Bench} (record { reply = record { number = n; outgoing = out; answers = ans }; after = record { store = record { state = s; memory = b.store.memory }; queues = q } }) (tick board8 b arriving waiting area out ans)
   unfolding tick number
-  tick-refused h = rw (← e, ne_eqb n 0 h)
+  tick-refused h s q kept kept' = rw (← e, ne_eqb n 0 h, kept, kept')
 
   -- With 0 the work is a tick's.
   pub tick-accepted : n ≡ 0 → (out' ans' : List ℕ) (b' : Bench) → ◌≡◌ {A = Outcome Bench} (record { reply = record { number = 0; outgoing = out'; answers = ans' }; after = b' }) (ticked board8 b arriving waiting area)

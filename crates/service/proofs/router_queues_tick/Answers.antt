@@ -12,7 +12,7 @@ use Rattle.service.proofs.Outcomes.{wrong-length, router-refuses, queues-decide,
 use Rattle.service.proofs.router_queues_tick.Goals as goal
 
 pub returns-in_default : goal.returns-in_default
-returns-in_default c = tick-refused _ _ _ _ _ _ _ (wrong-length _ _ (λ e. omega (arith, c.in_default.ensures.cases))) (λ z. omega arith)
+returns-in_default c = tick-refused _ _ _ _ _ _ _ (wrong-length _ _ (λ e. omega (arith, c.in_default.ensures.cases))) (λ z. omega arith) _ _ refl refl
 
 pub returns-in_err-of_tick : goal.returns-in_err-of_tick
 returns-in_err-of_tick c =
@@ -20,14 +20,14 @@ returns-in_err-of_tick c =
     let sized : length c.args.queues.now ≡ queues_length = search rules in
     let q : c.in-Some.queues.now ≡ c.args.queues.now = search rules in
     let some = number-some c.in_err-of_tick.field-0.0 in
-    rw (e, q) (tick-refused _ _ _ _ _ _ _ (router-refuses _ _ sized _ _ c.in_err-of_tick.ensures.number some) some)
+    rw e (tick-refused _ _ _ _ _ _ _ (router-refuses _ _ sized _ _ c.in_err-of_tick.ensures.number some) some _ _ refl q)
 
 pub returns-then-not-fitting : goal.returns-then-not-fitting
 returns-then-not-fitting c =
     let sized : length c.args.queues.now ≡ queues_length = search rules in
     let s : c.unwrap-state.result.now ≡ c.args.state.now = search rules in
     let q : c.in-Some.queues.now ≡ c.args.queues.now = search rules in
-    rw (s, q) (tick-refused _ _ _ _ _ _ _ (queues-decide _ _ sized _ _ c.in_ok-of_tick.ensures.number refl (rw (s, q) at c.fitting.ensures) (ap not c.if-not-fitting.true)) (λ z. omega arith))
+    tick-refused _ _ _ _ _ _ _ (queues-decide _ _ sized _ _ c.in_ok-of_tick.ensures.number refl (rw (s, q) at c.fitting.ensures) (ap not c.if-not-fitting.true)) (λ z. omega arith) _ _ s q
 
 pub returns : goal.returns
 returns c =
