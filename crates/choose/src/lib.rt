@@ -78,18 +78,16 @@ fn look(state: &[u8], t: ClockReading, s: SlotAddress, bests: &mut [u32; Router:
     layout::change_ports(bests, mask, |best| rank.min(best));
 }
 
-// All slots from this one on are empty. It is never 0: a pass looks at slot 0 in any case, and starts without a test. Not a `for` over the reversed range: `tick-0-idle` took 8,043 instructions by it, plain C's takes 7,970.
+// All slots from this one on are empty. It is never 0: a pass looks at slot 0 in any case, and starts without a test.
 pub fn end(state: &[u8]) -> usize
     ensures { EmptyFrom board8 state.now result }
 {
-    let mut e: usize = Router::SLOTS;
-    while 1 < e {
-        if layout::get(state, Field::Mask(SlotAddress((e - 1) as u8))) != 0 {
-            return e;
+    for i in (1..Router::SLOTS).rev() {
+        if layout::get(state, Field::Mask(SlotAddress(i as u8))) != 0 {
+            return i + 1;
         }
-        e -= 1;
     }
-    e
+    1
 }
 
 // The least ranks of all slots; those from `end` on are empty.
