@@ -1,6 +1,6 @@
 -- The test of one slot by what it reads, for any board: the reads are the values of its fields, so the code's tests are those of the definition; and together with whether it is idle. Assumes nothing.
 use Prim.Native.Nat.{ℕ, ◌-◌}
-use mathlib.Core.Path.{◌≡◌, refl, ap, ◌∙◌}
+use mathlib.Core.Path.{◌≡◌, refl, ◌∙◌}
 use mathlib.Core.Bool.{Bool, true, false, not, ◌&&◌, ◌||◌, beq, and_assoc}
 use lib.Dec.{leb, ltb, eqb}
 use lib.IntN.{pos, neg_ℤ}
@@ -9,7 +9,6 @@ use Rattle.rules.specs.Clock.{minus, offset}
 use Rattle.rules.specs.Areas.{Store, bits, half, packet, stamp}
 use Rattle.rules.specs.Board.{Board, Time, Deadline, Mask, clock}
 use Rattle.rules.specs.Questions.{slot_sound}
-use Rattle.rules.proofs.Booleans.{eq-beq}
 
 module _ (B : Board) (r : Store) (i : ℕ) where
   open B use {clock_bytes as c, get}
@@ -37,15 +36,3 @@ module _ (B : Board) (r : Store) (i : ℕ) where
       go : (b x : Bool) → b ≡ (beq true b && (b || x))
       go true x = refl
       go false x = refl
-
-  -- Another passes if it is not empty, and sound.
-  pub passes-stored : (not (eqb (get r.state (Mask, i)) 0) && slot_sound B r i) ≡ passes false (get r.state (Mask, i))
-  passes-stored = ap (λ (b : Bool). b && slot_sound B r i) (go (eqb (get r.state (Mask, i)) 0))
-    where
-      go : (b : Bool) → not b ≡ beq false b
-      go true = refl
-      go false = refl
-
-  -- Of an empty slot as idle and another as not, only soundness counts.
-  pub passes-sound : passes (eqb (get r.state (Mask, i)) 0) (get r.state (Mask, i)) ≡ slot_sound B r i
-  passes-sound = ap (λ (b : Bool). b && slot_sound B r i) (eq-beq (eqb (get r.state (Mask, i)) 0) (eqb (get r.state (Mask, i)) 0) refl)
