@@ -124,7 +124,13 @@ fn take(state: &mut State, memory: &mut Memory, packet: &Packet) -> Result<(), R
 }
 
 // One port's arrival.
-fn admit(state: &mut State, memory: &mut Memory, packet: &Packet, arriving: u8, port: Port) -> Arrival
+fn admit(
+    state: &mut State,
+    memory: &mut Memory,
+    packet: &Packet,
+    arriving: u8,
+    port: Port,
+) -> Arrival
     ensures number { number result ≡ arrival board8 state.old arriving port.index packet.now }
     ensures after { store state.new memory.new ≡ admitted board8 (store state.old memory.old) arriving port.index packet.now }
     ensures room { Room board8 state.old → Room board8 state.new }
