@@ -44,12 +44,14 @@ fi
 "$clang" --target=x86_64-unknown-linux-gnu --no-default-config -x ir "$MODULE" -S -emit-llvm -Xclang \
     -disable-llvm-passes -o "$room/kept.ll" || die "$MODULE is no module"
 
-# 2. Its lines have these forms and no others. So there is no global, no assembler, no function of a processor or of
-# elsewhere, no number made of a pointer or pointer of a number, no offset but in bytes, no alignment that isn't written
-# down, no number wider than 64 bits, no structure but of two bytes, and no length of a copy but a number.
-type='(ptr|i(1|8|16|32|64))' int='i(1|8|16|32|64)' reg='%[ar][0-9]+' label='%[a-z]+(\.[0-9]+)?' own='@"[A-Za-z0-9_:]+"'
+# 2. Its lines have these forms and no others. So there is no global but zeros that nothing can write, no assembler, no
+# function of a processor or of elsewhere, no pointer made of a number and no number of a pointer but an address (copy_bits
+# tells by two whether what it copies lies apart), no offset but in bytes, no alignment that isn't written down, no number
+# wider than 64 bits, no length of a copy but a number or copy_bits' product, and no structure but a pair, which is
+# returned, or loaded and taken apart.
+type='(ptr|i(1|8|16|32|64))' int='i(1|8|16|32|64)' reg='%[ar][0-9]+' label='%[a-z]+(\.[0-9]+)?' own='@"[^"]+"'
 val="($reg|-?[0-9]+|true|false)" length='i64 [0-9]+, i1 false\)'
-take="($type noundef( zeroext)?|i8) %a[0-9]+" hand="$type $val" pair='\{ i8, i8 \}'
+take="$type( noundef)?( zeroext)? %a[0-9]+" hand="$type $val" pair="\{ $type, $type \}"
 sed '/^#/d' > "$room/forms" <<END
 # around the functions
 ^\$|^;|^source_filename = "rattle"\$
@@ -57,27 +59,33 @@ sed '/^#/d' > "$room/forms" <<END
 ^declare void @llvm\.memmove\.p0\.p0\.i64\(ptr writeonly captures\(none\), ptr readonly captures\(none\), i64, i1 immarg\) #[1-9]\$
 ^declare void @llvm\.memset\.p0\.i64\(ptr writeonly captures\(none\), i8, i64, i1 immarg\) #[1-9]\$
 ^declare i8 @llvm\.cttz\.i8\(i8, i1 immarg\) #[1-9]\$
+^declare void @llvm\.trap\(\) #[1-9]\$
+^@static\.[0-9]+ = private unnamed_addr constant \[[0-9]+ x i8\] zeroinitializer, align 1\$
 ^attributes #0 = \{ nounwind "probe-stack"="inline-asm" "stack-probe-size"="3072" "target-cpu"="x86-64" \}\$
 ^attributes #[1-9] = \{ nocallback nofree( nosync)? nounwind( speculatable)? willreturn memory\((none|argmem: (read)?write)\) \}\$
+^attributes #[1-9] = \{ cold noreturn nounwind memory\(inaccessiblemem: write\) \}\$
 ^!llvm\.ident = !\{!0\}\$|^!0 = !\{!"rattle logic=[0-9a-f]+"\}\$|^!1 = !\{\}\$|^!2 = !\{i8 0, i8 2\}\$
-# a function, which is the crates' own, or an entry
-^define internal (void|noundef( zeroext)? $int|(noundef )?$pair) $own\(($take(, $take)*)?\) #0 \{\$
+# a function, which is the crates' own or of the library that is proved with them, or an entry
+^define internal (void|noundef( zeroext)? $int|(noundef )?(ptr|$pair)) $own\(($take(, $take)*)?\) #0 \{\$
 ^define noundef $int @[a-z_]+\(($take(, $take)*)?\) #0 \{\$
 ^[a-z]+(\.[0-9]+)?:( +; .*)?\$|^}\$
 # its instructions
 ^  $reg = alloca ($type|\[[0-9]+ x i8\]), align [1248]\$
 ^  $reg = load $type, ptr $reg, align [1248](, !range !2)?(, !noundef !1)?\$
-^  $reg = load $pair, ptr $reg, align 1\$|^  $reg = extractvalue $pair $reg, [01]\$|^  ret $pair $reg\$
-^  store $type $val, ptr $reg, align [1248]\$
+^  $reg = load $pair, ptr $reg, align [1248]\$|^  $reg = extractvalue $pair $reg, [01]\$|^  ret $pair $reg\$
+^  store $type $val, ptr $reg, align [1248]\$|^  store ptr @static\.[0-9]+, ptr $reg, align [1248]\$
 ^  $reg = getelementptr( inbounds nuw)? i8, ptr $reg, i64 $val\$
 ^  $reg = (add|sub|mul|udiv|urem|and|or|xor|shl|lshr)( nuw)? $int $val, $val\$
 ^  $reg = icmp (eq|ne|u[lg][te]) $int $val, $val\$|^  $reg = icmp eq ptr %a[0-9]+, null\$
 ^  $reg = (zext|trunc|trunc nuw) $int $val to $int\$
-^  ($reg = )?call (void|$int|$pair) $own\(($hand(, $hand)*)?\)\$
+^  $reg = ptrtoaddr ptr $reg to i64\$
+^  ($reg = )?call (void|ptr|$int|$pair) $own\(($hand(, $hand)*)?\)\$
 ^  call void @llvm\.memmove\.p0\.p0\.i64\(ptr $reg, ptr $reg, $length\$
+^  call void @llvm\.memmove\.p0\.p0\.i64\(ptr %a1, ptr %a0, i64 %r[0-9]+, i1 false\)\$
 ^  call void @llvm\.memset\.p0\.i64\(ptr $reg, i8 $val, $length\$
+^  call void @llvm\.trap\(\)\$
 ^  $reg = call i8 @llvm\.cttz\.i8\(i8 $val, i1 (true|false)\)\$
-^  (br label $label|br i1 $val, label $label, label $label|ret void|ret $int $val|unreachable)\$
+^  (br label $label|br i1 $val, label $label, label $label|ret void|ret (ptr|$int) $val|unreachable)\$
 ^  switch $int $val, label $label \[\$|^    $int -?[0-9]+, label $label\$|^  \]\$
 END
 if grep -vnE -f "$room/forms" "$room/kept.ll" > "$room/strange"; then
@@ -115,9 +123,13 @@ $compile -nostdinc -I"$room" -I"$top/include" -S -emit-llvm "$room/entries.c" -o
 #   returned is a length that was handed over, or below 100, and is cut. Inside, lengths, indices and sums have 64 bits as
 #   in the proof, so that what never overflows there never does here. An offset from a pointer is cut to the pointer's
 #   width: it lies in an area or an array, and none is that long.
-# - On 32 bits the fixed length of a copy is written as such a number.
+# - Which case a value is of is read in a byte, and written in one: x86-64 writes it with the zeros that follow it, of
+#   which the byte that is read is the first there and the last on a big-endian processor.
+# - A pair is loaded field by field, the second from where x86-64 has it, since another target might have it elsewhere.
+# - On 32 bits the length of a copy is cut to, or written as, such a number, and an address has as many bits and is widened.
 case $triple in x86_64-*linux*) same=yes ;; *) same=no ;; esac
 awk -v size="$size" -v same=$same '
+    BEGIN { width["i1"] = width["i8"] = 1; width["i16"] = 2; width["i32"] = 4; width["i64"] = width["ptr"] = 8 }
     function fail(why) { print "archive-for.sh: " why ": " $0 > "/dev/stderr"; exit failed = 1 }
     function inside(line) { sub(/^[^(]*\(/, "", line); sub(/\)[^)]*$/, "", line); return line }
     function named(line) { sub(/^[^@]*@/, "", line); sub(/\(.*/, "", line); return line }
@@ -127,7 +139,31 @@ awk -v size="$size" -v same=$same '
     /^target datalayout / { printf "%s", target; next }
     /^target triple / { next }
     /^attributes #0 / && same == "no" { print "attributes #0 = { nounwind }"; next }
-    /@llvm\.mem/ && size == 4 { sub(/\.i64\(/, ".i32("); sub(/, i64/, ", i32") }
+    size == 4 && /@llvm\.mem/ {
+        if (match($0, /, i64 %[ar][0-9]+/)) {
+            length_of = substr($0, RSTART + 6, RLENGTH - 6); cut++
+            print "  %n" cut " = trunc i64 " length_of " to i32"
+            sub(/, i64 %[ar][0-9]+/, ", i64 %n" cut)
+        }
+        sub(/\.i64\(/, ".i32("); sub(/, i64/, ", i32")
+    }
+    size == 4 && / = ptrtoaddr / { cut++; print "  %n" cut " = ptrtoaddr ptr " $5 " to i32"; print "  " $1 " = zext i32 %n" cut " to i64"; next }
+    same == "no" && /^  store i(16|32|64) .*, align 1$/ {
+        cut++
+        if ($3 ~ /^%/) print "  %n" cut " = trunc " $2 " " substr($3, 1, length($3) - 1) " to i8"
+        print "  store i8 " ($3 ~ /^%/ ? "%n" cut : substr($3, 1, length($3) - 1)) ", ptr " $5 " align 1"
+        next
+    }
+    same == "no" && / = load \{ / {
+        first = $5; second = $6; from = $9; whole = $11; sub(/,$/, "", first); sub(/,$/, "", from)
+        at = width[second]; part = at < whole ? at : whole; cut++
+        print "  %n" cut " = load " first ", ptr " from ", align " whole
+        print "  %o" cut " = getelementptr i8, ptr " from ", i64 " at
+        print "  %p" cut " = load " second ", ptr %o" cut ", align " part
+        print "  %q" cut " = insertvalue { " first ", " second " } poison, " first " %n" cut ", 0"
+        print "  " $1 " = insertvalue { " first ", " second " } %q" cut ", " second " %p" cut ", 1"
+        next
+    }
     /^define noundef / {
         name = named($0); line = declared[name]; widened = ""; kept = $3
         n = split(inside($0), here, ", ")

@@ -55,7 +55,7 @@ pub fn router_queues_fill(state: &[u8], memory: &[u8], queues: &mut [u8]) -> Res
         return Err(Refusal::Lengths);
     };
     questions::of_store(state, memory)?;
-    table1::fill(area, state);
+    table1::fill(area, state.as_array().unwrap());
     Ok(())
 }
 

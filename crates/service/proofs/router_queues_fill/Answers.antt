@@ -22,4 +22,5 @@ returns-in_err-of_store c =
 pub returns : goal.returns
 returns c =
     let sized : length c.args.queues.now ≡ queues_length = search rules in
-    fill-accepted _ _ (c.in_ok-of_store.ensures.number ∙ right-length _ _ sized) refl _ c.fill.ensures
+    let s : c.unwrap.result.now ≡ c.args.state.now = search rules in
+    fill-accepted _ _ (c.in_ok-of_store.ensures.number ∙ right-length _ _ sized) refl _ (rw s at c.fill.ensures)
