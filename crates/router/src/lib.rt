@@ -10,7 +10,7 @@ ghost use Rattle.layout.specs.Version.{version};
 ghost use Rattle.display.specs.Display.{display, display_start};
 
 use control::Register;
-use layout::{Refusal, Router};
+use layout::{Refusal, Router, State};
 
 // Makes state and memory those of a fresh router.
 pub fn router_fresh(state: &mut [u8], memory: &mut [u8], clock: u8) -> Result<(), Refusal>
@@ -33,7 +33,9 @@ pub fn router_control(
         (control_write board8 (record { state = state.old; memory = memory.now }) register value) }
 {
     questions::of_control(state, memory, register, value)?;
-    control::write_register(state, Register::try_from(register).unwrap(), value);
+    let register = Register::try_from(register).unwrap();
+    let state: &mut State = state.as_mut_array().unwrap();
+    control::write_register(state, register, value);
     Ok(())
 }
 
