@@ -12,7 +12,7 @@ ghost use Rattle.queues.specs.Engine.{Bench, fill, control, tick};
 ghost use Rattle.service.specs.Faults.{fault_number, fault_answer};
 
 use control::Register;
-use layout::{Refusal, Router, SlotAddress};
+use layout::{Refusal, Router, SlotAddress, State};
 
 // What is wrong with a state: a question that it fails, or of stored packets the lowest bad slot.
 #[derive(Clone, Copy)]
@@ -55,7 +55,8 @@ pub fn router_queues_fill(state: &[u8], memory: &[u8], queues: &mut [u8]) -> Res
         return Err(Refusal::Lengths);
     };
     questions::of_store(state, memory)?;
-    table1::fill(area, state.as_array().unwrap());
+    let state: &State = state.as_array().unwrap();
+    table1::fill(area, state);
     Ok(())
 }
 

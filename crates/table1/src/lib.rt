@@ -119,7 +119,7 @@ fn enter(queues: &mut Queues, state: &[u8], s: SlotAddress)
 }
 
 // Fills the queues from the state.
-pub fn fill(queues: &mut Queues, state: &State)
+pub fn fill(queues: &mut Queues, state: &[u8])
     ensures { queues.new ≡ Engine.filled board8 state.now 256 }
 {
     *queues = [0; LENGTH];

@@ -22,5 +22,5 @@ returns-in_err-of_store c =
 pub returns : goal.returns
 returns c =
     let sized : length c.args.queues.now ≡ queues_length = search rules in
-    let s : c.unwrap.result.now ≡ c.args.state.now = search rules in
+    let s : c.unwrap-state.result.now ≡ c.args.state.now = search rules in
     fill-accepted _ _ (c.in_ok-of_store.ensures.number ∙ right-length _ _ sized) refl _ (rw s at c.fill.ensures)
