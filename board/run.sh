@@ -37,11 +37,12 @@ shown() {
         grep -qF -e "$2" "$build/said"
 }
 
-# strange WHERE LINE: a module with one line more, behind the first that is WHERE, has a line of no known form.
+# strange WHERE LINE [WORDS]: a module with one line more, behind the first that is WHERE, has a line of no known form; or
+# it has another fault.
 strange() {
     awk -v where="$1" -v line="$2" '{ print } $0 ~ where && !done { print line; done = 1 }' "$build/router.ll" \
         > "$build/strange.ll"
-    shown "$2" "no known form"
+    shown "$2" "${3:-no known form}"
 }
 
 # changed FROM TO [TEXT WORDS]: so has one in which the first line with FROM has TO in its place; or it has another fault.
@@ -62,6 +63,8 @@ refusals() {
     step "refused: a number of 128 bits" strange '^start:' '  %strange = alloca i128, align 16'
     step "refused: a structure" strange '^start:' '  %strange = alloca { i8, i64 }, align 8'
     step "refused: a load that is volatile" strange '%r0 = alloca i8' '  %strange = load volatile i8, ptr %r0, align 1'
+    step "refused: a case that is no byte" strange '%r0 = alloca' '  store i64 256, ptr %r0, align 1' "written that is no byte"
+    step "refused: a case that is read whole" strange '%r0 = alloca' '  %r9999 = load i64, ptr %r0, align 1' "in more than a byte"
     step "refused: a copy of a length that is no number" changed ', i64 16, i1 false' ', i64 %a1, i1 false'
     step "refused: an attribute" changed '{ nounwind "probe-stack"' '{ alwaysinline nounwind "probe-stack"'
     step "refused: an entry that the header has not" changed '@router_version' '@router_revision' \

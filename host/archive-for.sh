@@ -124,7 +124,8 @@ $compile -nostdinc -I"$room" -I"$top/include" -S -emit-llvm "$room/entries.c" -o
 #   in the proof, so that what never overflows there never does here. An offset from a pointer is cut to the pointer's
 #   width: it lies in an area or an array, and none is that long.
 # - Which case a value is of is read in a byte, and written in one: x86-64 writes it with the zeros that follow it, of
-#   which the byte that is read is the first there and the last on a big-endian processor.
+#   which the byte that is read is the first there and the last on a big-endian processor. Nothing else is written in more
+#   than a byte with alignment 1: else, or where such a number is read whole, the module is refused.
 # - A pair is loaded field by field, the second from where x86-64 has it, since another target might have it elsewhere.
 # - On 32 bits the length of a copy is cut to, or written as, such a number, and an address has as many bits and is widened.
 case $triple in x86_64-*linux*) same=yes ;; *) same=no ;; esac
@@ -136,6 +137,9 @@ awk -v size="$size" -v same=$same '
     NR == FNR && /^target / { target = target $0 "\n" }
     NR == FNR && /^declare / { declared[named($0)] = $0 }
     NR == FNR { next }
+    /^define / { split("", told); entry = /^define noundef / }
+    / = zext i8 / { told[$1] = 1 }
+    !entry && / = load i(16|32|64), .*, align 1(,|$)/ { fail("a case read in more than a byte") }
     /^target datalayout / { printf "%s", target; next }
     /^target triple / { next }
     /^attributes #0 / && same == "no" { print "attributes #0 = { nounwind }"; next }
@@ -148,10 +152,12 @@ awk -v size="$size" -v same=$same '
         sub(/\.i64\(/, ".i32("); sub(/, i64/, ", i32")
     }
     size == 4 && / = ptrtoaddr / { cut++; print "  %n" cut " = ptrtoaddr ptr " $5 " to i32"; print "  " $1 " = zext i32 %n" cut " to i64"; next }
-    same == "no" && /^  store i(16|32|64) .*, align 1$/ {
-        cut++
-        if ($3 ~ /^%/) print "  %n" cut " = trunc " $2 " " substr($3, 1, length($3) - 1) " to i8"
-        print "  store i8 " ($3 ~ /^%/ ? "%n" cut : substr($3, 1, length($3) - 1)) ", ptr " $5 " align 1"
+    /^  store i(16|32|64) .*, align 1$/ {
+        value = substr($3, 1, length($3) - 1); cut++
+        if (!(value in told) && (value !~ /^[0-9]+$/ || value > 255)) fail("a case written that is no byte")
+        if (same == "yes") { print; next }
+        if (value in told) print "  %n" cut " = trunc " $2 " " value " to i8"
+        print "  store i8 " (value in told ? "%n" cut : value) ", ptr " $5 " align 1"
         next
     }
     same == "no" && / = load \{ / {
