@@ -114,8 +114,8 @@ $compile -nostdinc -I"$room" -I"$top/include" -S -emit-llvm "$room/entries.c" -o
 
 # What is of x86-64 in the module is changed, and nothing else:
 # - The target's layout and name, for those of x86-64. Every offset and alignment is written down in bytes, with room of
-#   8 for a pointer, and no crate can read a byte in another width than it was written in, so that neither the layout nor
-#   the order of bytes matters. Two bytes in a structure lie one behind the other in every layout.
+#   8 for a pointer, and a number is read in the width that it was written in, but for cases (below): bytes have alignment
+#   1, and with that nothing wider is read. So neither the layout nor the order of bytes matters.
 # - The attributes of each function but for x86-64: the processor (-mcpu), and the probes of a stack that ends in pages to
 #   trap on.
 # - The entries have the types that C's have, and extend a small result as C asks for it; of the upper bits of a small
