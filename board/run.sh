@@ -45,6 +45,15 @@ strange() {
     shown "$2" "${3:-no known form}"
 }
 
+# taken WHERE LINE LINE: a module with two lines more, behind the first that is WHERE, is compiled for x86-64 and a board.
+taken() {
+    awk -v where="$1" -v lines="$2\n$3" '{ print } $0 ~ where && !done { print lines; done = 1 }' "$build/router.ll" \
+        > "$build/strange.ll"
+    ! cmp -s "$build/router.ll" "$build/strange.ll" &&
+        MODULE=$build/strange.ll archive_for $x86 router "$build/strange.a" &&
+        MODULE=$build/strange.ll archive_for armebv7r-none-eabi router "$build/strange.a"
+}
+
 # changed FROM TO [TEXT WORDS]: so has one in which the first line with FROM has TO in its place; or it has another fault.
 changed() {
     awk -v from="$1" -v to="$2" 'index($0, from) && !done { sub(from, to); done = 1 } { print }' "$build/router.ll" \
@@ -64,8 +73,19 @@ refusals() {
     step "refused: a structure" strange '^start:' '  %strange = alloca { i8, i64 }, align 8'
     step "refused: a load that is volatile" strange '%r0 = alloca i8' '  %strange = load volatile i8, ptr %r0, align 1'
     step "refused: a case that is no byte" strange '%r0 = alloca' '  store i64 256, ptr %r0, align 1' "written that is no byte"
+    step "refused: a case of four digits" strange '%r0 = alloca' '  store i64 1000, ptr %r0, align 1' "written that is no byte"
+    step "refused: a case in an entry" strange ' = icmp eq ptr %a0, null' '  store i64 3, ptr %r0, align 1' "in an entry"
     step "refused: a case that is read whole" strange '%r0 = alloca' '  %r9999 = load i64, ptr %r0, align 1' "in more than a byte"
+    step "refused: a pair with a case that is read whole" strange '%r0 = alloca' \
+        '  %r9999 = load { i8, i16 }, ptr %r0, align 1' "in more than a byte"
+    step "refused: a pair whose first is the wider" strange '%r0 = alloca' '  %r9999 = load { i64, i8 }, ptr %r0, align 8' \
+        "whose first is the wider"
+    step "refused: a byte with more than its alignment" strange '%r0 = alloca' '  %r9999 = load i8, ptr %r0, align 8' \
+        "alignment of a wider number"
+    step "taken: a case of 3 and one of 255" taken '%r0 = alloca' '  store i64 3, ptr %r0, align 1' \
+        '  store i64 255, ptr %r0, align 1'
     step "refused: a copy of a length that is no number" changed ', i64 16, i1 false' ', i64 %a1, i1 false'
+    step "refused: copy_bits' address elsewhere" strange '%r0 = alloca' '  %r9999 = ptrtoaddr ptr %r0 to i64' "copy_bits alone"
     step "refused: an attribute" changed '{ nounwind "probe-stack"' '{ alwaysinline nounwind "probe-stack"'
     step "refused: an entry that the header has not" changed '@router_version' '@router_revision' \
         router_revision "not in include/router.h"

@@ -125,8 +125,11 @@ $compile -nostdinc -I"$room" -I"$top/include" -S -emit-llvm "$room/entries.c" -o
 #   width: it lies in an area or an array, and none is that long.
 # - Which case a value is of is read in a byte, and written in one: x86-64 writes it with the zeros that follow it, of
 #   which the byte that is read is the first there and the last on a big-endian processor. Nothing else is written in more
-#   than a byte with alignment 1: else, or where such a number is read whole, the module is refused.
-# - A pair is loaded field by field, the second from where x86-64 has it, since another target might have it elsewhere.
+#   than a byte with alignment 1, and nothing in an entry, which reads with it the pointers and lengths that it wrote with
+#   8: else, or where such a number is read whole, in a pair too, or a byte with more than alignment 1, the module is
+#   refused.
+# - A pair is loaded field by field, the second from where x86-64 has it, since another target might have it elsewhere:
+#   at its own width, as the first is no wider, or the module is refused.
 # - On 32 bits the length of a copy is cut to, or written as, such a number, and an address has as many bits and is widened.
 case $triple in x86_64-*linux*) same=yes ;; *) same=no ;; esac
 awk -v size="$size" -v same=$same '
@@ -137,9 +140,11 @@ awk -v size="$size" -v same=$same '
     NR == FNR && /^target / { target = target $0 "\n" }
     NR == FNR && /^declare / { declared[named($0)] = $0 }
     NR == FNR { next }
-    /^define / { split("", told); entry = /^define noundef / }
+    /^define / { split("", told); entry = /^define noundef /; copies = named($0) ~ /::copy_bits::/ }
+    !copies && / = ptrtoaddr |@llvm\.memmove.*, i64 %[ar]/ { fail("what copy_bits alone may do") }
     / = zext i8 / { told[$1] = 1 }
     !entry && / = load i(16|32|64), .*, align 1(,|$)/ { fail("a case read in more than a byte") }
+    / = load i8, .*, align [248](,|$)/ { fail("a byte read with the alignment of a wider number") }
     /^target datalayout / { printf "%s", target; next }
     /^target triple / { next }
     /^attributes #0 / && same == "no" { print "attributes #0 = { nounwind }"; next }
@@ -153,19 +158,23 @@ awk -v size="$size" -v same=$same '
     }
     size == 4 && / = ptrtoaddr / { cut++; print "  %n" cut " = ptrtoaddr ptr " $5 " to i32"; print "  " $1 " = zext i32 %n" cut " to i64"; next }
     /^  store i(16|32|64) .*, align 1$/ {
+        if (entry) fail("a case written in an entry")
         value = substr($3, 1, length($3) - 1); cut++
-        if (!(value in told) && (value !~ /^[0-9]+$/ || value > 255)) fail("a case written that is no byte")
+        if (!(value in told) && (value !~ /^[0-9]+$/ || value + 0 > 255)) fail("a case written that is no byte")
         if (same == "yes") { print; next }
         if (value in told) print "  %n" cut " = trunc " $2 " " value " to i8"
         print "  store i8 " (value in told ? "%n" cut : value) ", ptr " $5 " align 1"
         next
     }
-    same == "no" && / = load \{ / {
+    / = load \{ / {
         first = $5; second = $6; from = $9; whole = $11; sub(/,$/, "", first); sub(/,$/, "", from)
-        at = width[second]; part = at < whole ? at : whole; cut++
+        at = width[second]; cut++
+        if (width[first] > at) fail("a pair whose first is the wider")
+        if (whole + 0 < at) fail("a case read in more than a byte")
+        if (same == "yes") { print; next }
         print "  %n" cut " = load " first ", ptr " from ", align " whole
         print "  %o" cut " = getelementptr i8, ptr " from ", i64 " at
-        print "  %p" cut " = load " second ", ptr %o" cut ", align " part
+        print "  %p" cut " = load " second ", ptr %o" cut ", align " at
         print "  %q" cut " = insertvalue { " first ", " second " } poison, " first " %n" cut ", 0"
         print "  " $1 " = insertvalue { " first ", " second " } %q" cut ", " second " %p" cut ", 1"
         next
