@@ -13,8 +13,8 @@ ghost use Rattle.fresh.specs.Slots.{emptied};
 use layout::{ClockReading, Field, Refusal, Router, Slot, SlotAddress};
 
 // Copies the slots of a fresh router, each to its place from its time on.
-fn put_slots(state: &mut [u8], slots: &[Slot; Router::SLOTS])
-    requires { (length state.old ≡ board8.state_length) × (slots.now ≡ replicate 256 empty) }
+fn put_slots(state: &mut [u8], slots: [Slot; Router::SLOTS])
+    requires { (length state.old ≡ board8.state_length) × (slots ≡ replicate 256 empty) }
     ensures { state.new ≡ emptied 256 state.old }
 {
     for (i, slot) in slots.iter().enumerate() {
@@ -34,7 +34,7 @@ pub fn make_fresh(state: &mut [u8], memory: &mut [u8], clock: u8) -> Result<(), 
     }
     let router = Router::fresh(ClockReading(clock));
     state.copy_from_slice(&router.bytes);
-    put_slots(state, &router.slots);
+    put_slots(state, router.slots);
     memory.fill(0);
     Ok(())
 }
