@@ -39,7 +39,10 @@ fn serve_port(
 {
     let at = Router::PACKET * (port.index as usize);
     match g {
-        Grant::Nobody | Grant::BestEffort => layout::copy_in(&[0u8; Router::PACKET], outgoing, at),
+        Grant::Nobody | Grant::BestEffort => {
+            let none = [0u8; Router::PACKET];
+            layout::copy_in(&none, outgoing, at);
+        }
         Grant::OnTime(s) | Grant::Early(s) => {
             layout::copy_in(packet(memory, s), outgoing, at);
             join(sent, port, s);
