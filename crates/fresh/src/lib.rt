@@ -35,6 +35,6 @@ pub fn make_fresh(state: &mut [u8], memory: &mut [u8], clock: u8) -> Result<(), 
     let router = Router::fresh(ClockReading(clock));
     state.copy_from_slice(&router.bytes);
     put_slots(state, router.slots);
-    memory.fill(0);
+    layout::clear(memory);
     Ok(())
 }
