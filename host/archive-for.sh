@@ -44,11 +44,10 @@ fi
 "$clang" --target=x86_64-unknown-linux-gnu --no-default-config -x ir "$MODULE" -S -emit-llvm -Xclang \
     -disable-llvm-passes -o "$room/kept.ll" || die "$MODULE is no module"
 
-# 2. Its lines have these forms and no others. So there is no global but zeros that nothing can write, no assembler, no
-# function of a processor or of elsewhere, no pointer made of a number and no number of a pointer but an address (copy_bits
-# tells by two whether what it copies lies apart), no offset but in bytes, no alignment that isn't written down, no number
-# wider than 64 bits, no length of a copy but a number or copy_bits' product, and no structure but a pair, which is
-# returned, or loaded and taken apart.
+# 2. Its lines have these forms and no others. So there is no global, no assembler, no function of a processor or of
+# elsewhere, no pointer made of a number and no number of a pointer but an address (copy_bits tells by two whether what it
+# copies lies apart), no offset but in bytes, no alignment that isn't written down, no number wider than 64 bits, no length
+# of a copy but a number or copy_bits' product, and no structure but a pair, which is returned, or loaded and taken apart.
 type='(ptr|i(1|8|16|32|64))' int='i(1|8|16|32|64)' reg='%[ar][0-9]+' label='%[a-z]+(\.[0-9]+)?' own='@"[^"]+"'
 val="($reg|-?[0-9]+|true|false)" length='i64 [0-9]+, i1 false\)'
 take="$type( noundef)?( zeroext)? %a[0-9]+" hand="$type $val" pair="\{ $type, $type \}"
@@ -60,7 +59,6 @@ sed '/^#/d' > "$room/forms" <<END
 ^declare void @llvm\.memset\.p0\.i64\(ptr writeonly captures\(none\), i8, i64, i1 immarg\) #[1-9]\$
 ^declare i8 @llvm\.cttz\.i8\(i8, i1 immarg\) #[1-9]\$
 ^declare void @llvm\.trap\(\) #[1-9]\$
-^@static\.[0-9]+ = private unnamed_addr constant \[[0-9]+ x i8\] zeroinitializer, align 1\$
 ^attributes #0 = \{ nounwind "probe-stack"="inline-asm" "stack-probe-size"="3072" "target-cpu"="x86-64" \}\$
 ^attributes #[1-9] = \{ nocallback nofree( nosync)? nounwind( speculatable)? willreturn memory\((none|argmem: (read)?write)\) \}\$
 ^attributes #[1-9] = \{ cold noreturn nounwind memory\(inaccessiblemem: write\) \}\$
@@ -73,7 +71,7 @@ sed '/^#/d' > "$room/forms" <<END
 ^  $reg = alloca ($type|\[[0-9]+ x i8\]), align [1248]\$
 ^  $reg = load $type, ptr $reg, align [1248](, !range !2)?(, !noundef !1)?\$
 ^  $reg = load $pair, ptr $reg, align [1248]\$|^  $reg = extractvalue $pair $reg, [01]\$|^  ret $pair $reg\$
-^  store $type $val, ptr $reg, align [1248]\$|^  store ptr @static\.[0-9]+, ptr $reg, align [1248]\$
+^  store $type $val, ptr $reg, align [1248]\$
 ^  $reg = getelementptr( inbounds nuw)? i8, ptr $reg, i64 $val\$
 ^  $reg = (add|sub|mul|udiv|urem|and|or|xor|shl|lshr)( nuw)? $int $val, $val\$
 ^  $reg = icmp (eq|ne|u[lg][te]) $int $val, $val\$|^  $reg = icmp eq ptr %a[0-9]+, null\$
