@@ -10,4 +10,4 @@ pub returns : goal.returns
 returns c =
     let n : length c.args.codes ≡ 5 = search rules in
     let m : length c.args.met ≡ 5 = search rules in
-    laid c.args.answers.now c.args.codes c.args.met c.args.counts _ _ _ c.told-answers n m c.copy_in.ensures c.copy_in-2.ensures c.put_counts.ensures _ (simp length-drop (omega arith))
+    laid c.args.answers.now c.args.codes c.args.met c.args.counts _ _ _ c.told-answers n m c.copy_in.ensures c.put_met.ensures c.put_counts.ensures _ (simp length-drop (omega arith))
