@@ -13,6 +13,8 @@ use events::Event;
 use layout::ClockReading;
 use std::marker::Model;
 
+pub mod lent;
+
 // A line has 72 characters, and a page 62 ticks.
 const LINE: usize = 72;
 

@@ -9,6 +9,8 @@ ghost use Rattle.text.specs.Lines.{decimal, digits_of, hex, field, refused_line,
 use arrayvec::ArrayVec;
 use layout::{ClockReading, Port, Router};
 
+pub mod lent;
+
 // A character so many times.
 pub fn put_repeated<const N: usize>(lines: &mut ArrayVec<u8, N>, count: usize, b: u8)
     requires { array_vec_len lines.old + count ≤ N }

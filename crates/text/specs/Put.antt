@@ -1,0 +1,8 @@
+-- What a function that prints into a lent area promises. Assumes nothing.
+use Rattle.std.specs.Prelude.{ℕ, ◌+◌, ◌≡◌, List, length}
+use Rattle.std.proofs.lemmas.List.Edits.{sets}
+
+-- The area has the text from `at` on, and r is the place after it.
+pub record Put (text : List ℕ) (at : ℕ) (before after : List ℕ) (r : ℕ) : Type 0 where
+  pub stored : after ≡ sets before at text
+  pub ends : r ≡ at + length text
