@@ -6,7 +6,8 @@ ghost use Rattle.rules.specs.Areas.{has, byte};
 ghost use Rattle.records.specs.Records.{record_length};
 ghost use Rattle.events.specs.Tape as Rules;
 ghost use Rattle.events.specs.declared.Refused.TheVariants.{Record, Call};
-ghost use Rattle.events.specs.Values.{tape_of, event_of, taken_of, refused_number};
+ghost use Rattle.events.specs.declared.Pending.{Pending};
+ghost use Rattle.events.specs.Values.{tape_in, tape_of, taken_in, taken_of, refused_number};
 
 use layout::{Answers, ClockReading, Field, Packets, Port, Router};
 use records::Kind;
@@ -63,7 +64,7 @@ pub struct Reply {
 }
 
 // A tape between its records: the router's areas, of any lengths, since the router itself refuses those of others, and the arrivals that wait for the coming tick.
-#[derive(Drop)]
+#[derive(Clone, Copy)]
 pub struct Tape<const S: usize, const M: usize> {
     pub state: [u8; S],
     pub memory: [u8; M],
@@ -102,62 +103,92 @@ fn with_port(mask: u8, port: Port) -> u8
     mask + (1 << port.index)
 }
 
+#[tactic(auto, unfolding(crate::specs::Tape::take_control))]
+fn take_control(state: &mut [u8], memory: &[u8], bytes: &[u8]) -> Event
+    ensures { (arrivals out ans : List ℕ) (k : ℕ) (w : Pending) → taken_in k state.new memory.now arrivals w result out ans ≡ Rules.take_control (tape_in state.old memory.now arrivals w) k bytes.now }
+{
+    let register = layout::byte(bytes, 1);
+    let value = layout::byte(bytes, 2);
+    router::router_control(state, memory, register, value)?;
+    Ok(None)
+}
+
+#[tactic(auto, unfolding(crate::specs::Tape::take_arrival))]
+fn take_arrival(arrivals: &mut Packets, pending: &mut Pending, number: u64, bytes: &[u8])
+    requires whole { length bytes.now ≡ record_length }
+    requires port { byte bytes.now 1 < 5 }
+    requires free { has pending.old.mask (byte bytes.now 1) ≡ false }
+    ensures { (state memory : List ℕ) → ◌≡◌ {A = Rules.Taken} (record { tape = tape_in state memory arrivals.new pending.new; event = Rules.nothing }) (Rules.take_arrival (tape_in state memory arrivals.old pending.old) number bytes.now) }
+{
+    let port = Port { index: bytes[1] };
+    let place = port.index as usize;
+    pending.mask = with_port(pending.mask, port);
+    pending.records[place] = number;
+    layout::copy_in(&bytes[4..], arrivals, Router::PACKET * place);
+}
+
+// A tick; an accepted one leaves its reply in the lent one, a refused one keeps the arrivals that wait.
+fn take_tick(
+    state: &mut [u8],
+    memory: &mut [u8],
+    arrivals: &Packets,
+    pending: &mut Pending,
+    bytes: &[u8],
+    reply: &mut Reply,
+) -> Event
+    ensures { (k : ℕ) → taken_in k state.new memory.new arrivals.now pending.new result reply.new.outgoing reply.new.answers ≡ Rules.take_tick (tape_in state.old memory.old arrivals.now pending.old) k bytes.now }
+{
+    let clock = layout::get(state, Field::Clock);
+    let waiting = layout::byte(bytes, 1);
+    router::router_tick(
+        state,
+        memory,
+        arrivals,
+        &mut reply.outgoing,
+        &mut reply.answers,
+        pending.mask,
+        waiting,
+    )?;
+    pending.mask = 0;
+    Ok(Some(ClockReading(clock)))
+}
+
+// One record: its questions, then what its kind does. An accepted tick leaves its reply in the lent one. The router's areas are lent too, of any lengths.
+#[tactic(auto, unfolding(crate::specs::Tape::take_record))]
+pub fn take_record(
+    state: &mut [u8],
+    memory: &mut [u8],
+    arrivals: &mut Packets,
+    pending: &mut Pending,
+    number: u64,
+    bytes: &[u8],
+    reply: &mut Reply,
+) -> Event
+    ensures { taken_in number state.new memory.new arrivals.new pending.new result reply.new.outgoing reply.new.answers ≡ Rules.take_record (tape_in state.old memory.old arrivals.old pending.old) number bytes.now }
+{
+    match records::questions(pending.mask, bytes)? {
+        Kind::Control => take_control(state, memory, bytes),
+        Kind::Arrival => {
+            take_arrival(arrivals, pending, number, bytes);
+            Ok(None)
+        }
+        Kind::Tick => take_tick(state, memory, arrivals, pending, bytes, reply),
+    }
+}
+
 impl<const S: usize, const M: usize> Tape<S, M> {
-    #[tactic(auto, unfolding(crate::specs::Tape::take_control))]
-    fn take_control(&mut self, bytes: &[u8]) -> Event
-        ensures { (out ans : List ℕ) (k : ℕ) → taken_of k self.new result out ans ≡ Rules.take_control (tape_of self.old) k bytes.now }
-    {
-        let register = layout::byte(bytes, 1);
-        let value = layout::byte(bytes, 2);
-        router::router_control(&mut self.state, &self.memory, register, value)?;
-        Ok(None)
-    }
-
-    #[tactic(auto, unfolding(crate::specs::Tape::take_arrival))]
-    fn take_arrival(&mut self, number: u64, bytes: &[u8])
-        requires whole { length bytes.now ≡ record_length }
-        requires port { byte bytes.now 1 < 5 }
-        requires free { has self.old.pending.mask (byte bytes.now 1) ≡ false }
-        ensures { ◌≡◌ {A = Rules.Taken} (record { tape = tape_of self.new; event = Rules.nothing }) (Rules.take_arrival (tape_of self.old) number bytes.now) }
-    {
-        let port = Port { index: bytes[1] };
-        let place = port.index as usize;
-        self.pending.mask = with_port(self.pending.mask, port);
-        self.pending.records[place] = number;
-        layout::copy_in(&bytes[4..], &mut self.arrivals, Router::PACKET * place);
-    }
-
-    // A tick; an accepted one leaves its reply in the lent one, a refused one keeps the arrivals that wait.
-    fn take_tick(&mut self, bytes: &[u8], reply: &mut Reply) -> Event
-        ensures { (k : ℕ) → taken_of k self.new result reply.new.outgoing reply.new.answers ≡ Rules.take_tick (tape_of self.old) k bytes.now }
-    {
-        let clock = layout::get(&self.state, Field::Clock);
-        let waiting = layout::byte(bytes, 1);
-        router::router_tick(
-            &mut self.state,
-            &mut self.memory,
-            &self.arrivals,
-            &mut reply.outgoing,
-            &mut reply.answers,
-            self.pending.mask,
-            waiting,
-        )?;
-        self.pending.mask = 0;
-        Ok(Some(ClockReading(clock)))
-    }
-
     // One record: its questions, then what its kind does. An accepted tick leaves its reply in the lent one.
-    #[tactic(auto, unfolding(crate::specs::Tape::take_record))]
     pub fn take_record(&mut self, number: u64, bytes: &[u8], reply: &mut Reply) -> Event
         ensures { taken_of number self.new result reply.new.outgoing reply.new.answers ≡ Rules.take_record (tape_of self.old) number bytes.now }
     {
-        match records::questions(self.pending.mask, bytes)? {
-            Kind::Control => self.take_control(bytes),
-            Kind::Arrival => {
-                self.take_arrival(number, bytes);
-                Ok(None)
-            }
-            Kind::Tick => self.take_tick(bytes, reply),
-        }
+        take_record(
+            &mut self.state,
+            &mut self.memory,
+            &mut self.arrivals,
+            &mut self.pending,
+            number,
+            bytes,
+            reply,
+        )
     }
 }

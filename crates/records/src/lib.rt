@@ -33,6 +33,18 @@ impl TryFrom<u8> for Kind {
     }
 }
 
+impl From<Kind> for u8 {
+    ghost from_gives = { λ kind byte. byte ≡ byte_of kind };
+
+    fn from(kind: Kind) -> u8 {
+        match kind {
+            Kind::Control => 0x43,
+            Kind::Arrival => 0x41,
+            Kind::Tick => 0x54,
+        }
+    }
+}
+
 // Why the questions of a record refuse it.
 #[derive(Clone, Copy, Debug, PartialEq, Eq, Hash)]
 pub enum Refusal {

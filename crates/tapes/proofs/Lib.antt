@@ -1,3 +1,4 @@
 pub mod Chunks
+pub mod Put
 pub mod Texts
 pub mod Blocks

@@ -1,3 +1,4 @@
 pub mod Printed
 pub mod Blocks
+pub mod Lent
 pub mod Values

@@ -4,20 +4,20 @@ use Rattle.std.specs.Slice.Iter.{chunks_rest, chunks_size}
 use Rattle.arrayvec.specs.ArrayVec.{array_vec_len}
 use Rattle.records.specs.Records.{record_length, records_in}
 use Rattle.events.specs.Tape.{after}
-use Rattle.events.specs.Values.{tape_of}
+use Rattle.events.specs.Values.{tape_in}
 use Rattle.pages.specs.Values.{PutPaged}
 use Rattle.tapes.specs.Printed.{print_events}
-use Rattle.tapes.proofs.stepping.Place.run.Given as goal
+use Rattle.tapes.proofs.stepping.run.Given as goal
 
 abbrev pub invariant-loop-record : goal.invariant-loop-record
 invariant-loop-record g l =
     let i = length l.yielded in
-    let o = after (tape_of l.initial.self.tape) l.initial.self.number l.block i in record {
+    let o = after (tape_in l.initial.state l.initial.memory l.initial.arrivals l.initial.pending) l.initial.number l.block i in record {
       size : chunks_size l.record-iterator ≡ record_length;
       rest : chunks_rest l.record-iterator ≡ drop (record_length * i) l.block;
       passed : i ≤ records_in l.block;
-      number : l.self.number ≡ l.initial.self.number + i;
+      number : l.number ≡ l.initial.number + i;
       room : array_vec_len l.lines ≤ array_vec_len l.initial.lines + 161 * i;
-      tape : tape_of l.self.tape ≡ o.tape;
-      text : PutPaged (print_events l.style l.initial.self.page o.events) l.self.page l.initial.lines.items l.lines.items;
+      tape : tape_in l.state l.memory l.arrivals l.pending ≡ o.tape;
+      text : PutPaged (print_events l.style l.initial.page o.events) l.page l.initial.lines.items l.lines.items;
     }

@@ -7,7 +7,7 @@ use Rattle.pages.specs.Printing.{in_order}
 use Rattle.tapes.specs.Blocks.{turned}
 use Rattle.tapes.proofs.Chunks.{chunk-first, chunk-leaves}
 use Rattle.tapes.proofs.Texts.{tape-then, text-then}
-use Rattle.tapes.proofs.stepping.Place.run.Goals as goal
+use Rattle.tapes.proofs.stepping.run.Goals as goal
 
 pub loop-record-init : goal.loop-record-init
 unfolding after in_order
@@ -30,15 +30,15 @@ loop-record-preserved g c =
     let same : c.in-Some.record.now ≡ record_at c.args.block.now i = chunk-first _ _ (chunks_rest c.next.new.self) record_length steps.1.0 size ∙ ap (take record_length) loop.rest in
     let leaves = chunk-leaves _ c.in-Some.record.now (chunks_rest c.next.new.self) record_length steps.1.0 size ∙ ap (drop record_length) loop.rest in
     let left = ap length loop.rest ∙ length-drop (record_length * i) c.args.block.now in
-    let number : c.loop-record.self.number + 1 ≡ c.args.self.now.number + i + 1 = omega (arith, loop.number) in
+    let number : c.loop-record.number + 1 ≡ c.args.number.now + i + 1 = omega (arith, loop.number) in
     rw (length-append c.loop-record.yielded (c.in-Some.record ∷ [])) (record {
       size = steps.0 ∙ loop.size;
       rest = leaves ∙ drop-drop record_length (record_length * i) c.args.block.now ∙ ap (λ n. drop n c.args.block.now) (omega arith);
       passed = omega (arith, left);
       number = omega (arith, loop.number);
       room = omega (arith, loop.room);
-      tape = tape-then _ _ _ i _ loop.tape _ _ number same _ c.step.ensures.tape_after;
-      text = text-then _ _ _ i _ loop.tape _ _ number same _ _ _ _ loop.text c.step.ensures.put_paged;
+      tape = tape-then _ _ _ i _ loop.tape _ _ number same _ c.step_areas.ensures.tape_after;
+      text = text-then _ _ _ i _ loop.tape _ _ number same _ _ _ _ loop.text c.step_areas.ensures.put_paged;
     })
 
 pub returns-clause-place_after : goal.returns-clause-place_after
