@@ -2,7 +2,7 @@
 #![tactic(auto)]
 
 ghost use Rattle.std.specs.Prelude.{◌+◌, ◌*◌, ◌≤◌, ◌<◌, ◌^◌, ◌≡◌, ◌++◌, Bool, true, length, take, is_none, unwrap_or, IfOk, IfErr, OnOk, OnErr, IsErrOf, IsNone, Some};
-ghost use Rattle.std.specs.Io.KnownBytes.{Consumes, Appends, IsAtEnd};
+ghost use Rattle.std.specs.Io.KnownBytes.{Consumes, Appends, Keeps, IsAtEnd};
 ghost use Rattle.records.specs.Records.{record_length};
 ghost use Rattle.arrayvec.specs.ArrayVec.{array_vec_len};
 ghost use Rattle.tapes.specs.Blocks as Blocks;
@@ -84,6 +84,7 @@ fn read_more<I: Read>(
     ensures fits { IfOk result (λ r. length held.now + unwrap_or r 0 ≤ length block.new) }
     ensures consumed { IfOk result (λ r. Consumes (I.remaining input.old) (I.remaining input.new) (brought held.now r block.new)) }
     ensures at_end { IfOk result (λ r. IsNone r → IsAtEnd (I.remaining input.new)) }
+    ensures none_lost { OnErr result (Keeps (I.remaining input.old) (I.remaining input.new)) }
     ensures err { IfErr result (λ e. e ≡ Failure.Input) }
 {
     block[..held.len()].copy_from_slice(held);
@@ -174,6 +175,7 @@ impl Printer {
         ensures bytes { IfOk result (λ r. self.new.bytes ≡ self.old.bytes + unwrap_or r 0) }
         ensures consumed { IfOk result (λ r. Consumes (I.remaining input.old) (I.remaining input.new) (brought self.old.held.items r self.new.block)) }
         ensures at_end { IfOk result (λ r. IsNone r → IsAtEnd (I.remaining input.new)) }
+        ensures none_lost { OnErr result (Keeps (I.remaining input.old) (I.remaining input.new)) }
         ensures as_before { OnErr result ((between_of self.new ≡ between_of self.old) × (self.new.bytes ≡ self.old.bytes) × (take (array_vec_len self.old.held) self.new.block ≡ self.old.held.items)) }
         ensures err { IfErr result (λ e. e ≡ Failure.Input) }
         ensures part { PartOfRecord self.new.held }

@@ -1,5 +1,5 @@
 -- `run` meets its contract: before the first turn nothing has come in, and a turn more is a read more in what is reached; a read that failed brought no byte, and leaves all as it was.
-use Rattle.std.proofs.Common.{ℕ, ◌+◌, ◌*◌, ◌/◌, ◌≤◌, ◌<◌, ◌≡◌, Bool, false, true≢false, not, [], ◌++◌, length, take, drop, is_none, unwrap_or, append-nil, add-zero, sym, ap, ◌∙◌, subst, arith}
+use Rattle.std.proofs.Common.{ℕ, ◌+◌, ◌*◌, ◌/◌, ◌≤◌, ◌<◌, ◌≡◌, Bool, false, true≢false, not, [], ◌++◌, length, take, drop, is_none, unwrap_or, append-nil, add-zero, sym, ap, ◌∙◌, subst, arith, rules}
 use Rattle.std.proofs.lemmas.List.{length-take, length-drop}
 use Rattle.records.specs.Records.{record_length}
 use Rattle.std.proofs.lemmas.Result.{err_from_is_err_and}
@@ -65,7 +65,7 @@ returns-then-is_none-clause-printed g c =
     let ended = c.if-is_none.ensures in
     let turned = rw (s.invariant.style) at a.turned in
     streamed_end s.invariant.streamed (is_none c.in_ok-read.read) (brought s.self.held.items c.in_ok-read.read c.turn.new.self.block) c.turn.new.self.lines.items (between_of c.turn.new.self)
-    (g.I.Read.remaining c.turn.new.input) (g.O.Write.contents c.write_out.new.output) (ap not ended) turned a.consumed (a.at_end ended) c.in_ok-write_out.ensures.written
+    (g.I.Read.remaining c.turn.new.input) _ (ap not ended) turned a.consumed (a.at_end ended) (search rules)
 
 pub loop-preserved : goal.loop-preserved
 loop-preserved g c =
@@ -83,5 +83,5 @@ loop-preserved g c =
       reached = λ _. reached;
       passed = passed_on {block = take reached.0 c.turn.new.self.block} reached.1 (λ i. false);
       streamed = streamed_then s.invariant.streamed (is_none c.in_ok-read.read) (brought s.self.held.items c.in_ok-read.read c.turn.new.self.block) c.turn.new.self.lines.items (between_of c.turn.new.self)
-          (g.I.Read.remaining c.turn.new.input) (g.O.Write.contents c.write_out.new.output) (ap not more) turned a.consumed c.in_ok-write_out.ensures.written;
+          (g.I.Read.remaining c.turn.new.input) _ (ap not more) turned a.consumed (search rules);
     }
