@@ -12,7 +12,7 @@ use Rattle.pages.specs.Values.{PutPaged}
 use Rattle.pages.proofs.AsTicksCome.{pages_as_ticks_come}
 use Rattle.tapes.specs.declared.printing.Style.{Style}
 use Rattle.tapes.specs.declared.printing.Style.TheVariants.{Lines, Pages}
-use Rattle.tapes.specs.Lent.{PutPagedAt}
+use Rattle.pages.specs.Values.{PutPagedAt}
 use Rattle.tapes.specs.Printed.{lines_of, printed, print_event, print_events, print_end}
 use Rattle.tapes.proofs.Put.{put_then}
 

@@ -1,4 +1,3 @@
 pub mod Printed
 pub mod Blocks
-pub mod Lent
 pub mod Values

@@ -1,18 +1,20 @@
 // The same for lent areas of any lengths: what is printed goes into a slice from a place on, and all other places stay as they were. Each function gives the place after its text.
 ghost use Rattle.std.specs.Prelude.{◌≡◌, ◌+◌, ◌*◌, ◌^◌, ◌≤◌, ◌<◌, length};
+ghost use Rattle.arrayvec.specs.ArrayVec.{array_vec_len};
 ghost use Rattle.records.specs.Records.{records_in};
 ghost use Rattle.events.specs.Tape.{take_record};
-ghost use Rattle.events.specs.Values.{tape_in, event_of};
+ghost use Rattle.events.specs.Values.{tape_in};
+ghost use Rattle.text.specs.Put.{Put};
+ghost use Rattle.pages.specs.Values.{PutPaged, PutPagedAt, byte_event_of};
 ghost use Rattle.tapes.specs.Printed.{print_event, print_end};
 ghost use Rattle.tapes.specs.Blocks as Blocks;
-ghost use Rattle.tapes.specs.Lent.{Put, PutPagedAt};
 ghost use Rattle.tapes.specs.Values.{place_in};
 
 use crate::printing::Style;
 use crate::{printing, stepping};
 use arrayvec::ArrayVec;
-use events::{Event, Pending};
-use layout::{Packets, Router};
+use events::Pending;
+use layout::{ClockReading, Packets, Router};
 use pages::Page;
 
 // What goes out with a record has at most so many characters, and what goes out at the tape's end.
@@ -28,7 +30,40 @@ fn put(text: &[u8], lines: &mut [u8], at: usize) -> usize
     at + text.len()
 }
 
-// What goes out with a record, at most 161 characters.
+// What goes out with a record. Its refusal may be any byte.
+#[tactic(auto, unfolding(crate::specs::Printed::print_event, crate::specs::Printed::event_lines, pages::specs::Printing::with_event))]
+fn append_event(
+    text: &mut ArrayVec<u8, TEXT>,
+    style: Style,
+    page: &mut Page,
+    number: u64,
+    records: [u64; Router::PORTS],
+    event: Result<Option<ClockReading>, u8>,
+    outgoing: &[u8],
+    answers: &[u8],
+)
+    requires { array_vec_len text.old ≡ 0 }
+    ensures { PutPaged (print_event style page.old (byte_event_of number records event outgoing.now answers.now)) page.new text.old.items text.new.items }
+{
+    match event {
+        Ok(ticked) => printing::put_event(
+            text,
+            style,
+            page,
+            number,
+            records,
+            Ok(ticked),
+            outgoing,
+            answers,
+        ),
+        Err(refusal) => match style {
+            Style::Lines => text::put_refused(text, number, refusal),
+            Style::Pages => {}
+        },
+    }
+}
+
+// What goes out with a record, at most 161 characters. Its refusal may be any byte, of which `events::Refused` has twelve.
 pub fn put_event(
     lines: &mut [u8],
     at: usize,
@@ -36,16 +71,16 @@ pub fn put_event(
     page: &mut Page,
     number: u64,
     records: [u64; Router::PORTS],
-    event: Event,
+    event: Result<Option<ClockReading>, u8>,
     outgoing: &[u8],
     answers: &[u8],
 ) -> usize
     requires { at + 161 ≤ length lines.old }
-    ensures put_paged { PutPagedAt (print_event style page.old (event_of number records event outgoing.now answers.now)) page.new at lines.old lines.new result }
+    ensures put_paged { PutPagedAt (print_event style page.old (byte_event_of number records event outgoing.now answers.now)) page.new at lines.old lines.new result }
     ensures upper_bound { result ≤ at + 161 }
 {
     let mut text = ArrayVec::<u8, TEXT>::new();
-    printing::put_event(
+    append_event(
         &mut text, style, page, number, records, event, outgoing, answers,
     );
     put(&text, lines, at)

@@ -4,7 +4,7 @@ use Rattle.std.specs.Slice.Iter.{chunks_rest, chunks_size}
 use Rattle.records.specs.Records.{record_length, records_in}
 use Rattle.events.specs.Tape.{after}
 use Rattle.events.specs.Values.{tape_in}
-use Rattle.tapes.specs.Lent.{PutPagedAt}
+use Rattle.pages.specs.Values.{PutPagedAt}
 use Rattle.tapes.specs.Printed.{print_events}
 use Rattle.tapes.proofs.lent.run.Given as goal
 
