@@ -10,7 +10,7 @@ ghost use Rattle.tapes.specs.Values.{place_of};
 ghost use Rattle.program.specs.Failures.{text_of};
 ghost use Rattle.program.specs.Turns.{PartOfRecord, brought, between_of, BlockPerRead, HasReached, PrintsTape};
 
-use arrayvec::ArrayVec;
+use arrayvec::{ArrayString, ArrayVec};
 use records::RECORD;
 use std::error::Error;
 use std::fmt;
@@ -232,8 +232,11 @@ pub fn print<I: Read, O: Write, E: Write>(
     let mut printer = Printer::new(style);
     let printed = printer.run(&mut streams.input, &mut streams.output);
     if let Err(failure) = printed {
+        // The line goes out by one write, so that nothing comes between it and its line feed.
+        let mut line = ArrayString::<48>::new();
+        let _ = fmt::Write::write_fmt(&mut line, format_args!("{failure}\n"));
         let _ = streams.errors.write_all(name);
-        let _ = writeln!(streams.errors, "{failure}");
+        let _ = streams.errors.write_all(line.as_bytes());
     }
     printed
 }
