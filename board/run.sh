@@ -80,11 +80,17 @@ refusals() {
         '  %r9999 = load { i8, i16 }, ptr %r0, align 1' "in more than a byte"
     step "refused: a pair whose first is the wider" strange '%r0 = alloca' '  %r9999 = load { i64, i8 }, ptr %r0, align 8' \
         "whose first is the wider"
+    step "refused: a pointer written as a case" strange '%r0 = alloca' '  store ptr %r0, ptr %r0, align 1' \
+        "written that is no byte"
     step "refused: a byte with more than its alignment" strange '%r0 = alloca' '  %r9999 = load i8, ptr %r0, align 8' \
+        "alignment of a wider number"
+    step "refused: two bytes with more than theirs" strange '%r0 = alloca' '  %r9999 = load { i8, i8 }, ptr %r0, align 8' \
         "alignment of a wider number"
     step "taken: a case of 3 and one of 255" taken '%r0 = alloca' '  store i64 3, ptr %r0, align 1' \
         '  store i64 255, ptr %r0, align 1'
     step "refused: a copy of a length that is no number" changed ', i64 16, i1 false' ', i64 %a1, i1 false'
+    step "refused: copy_bits' copy elsewhere" strange '%r21 = load i64, ptr %r3, align 8' \
+        '  call void @llvm.memmove.p0.p0.i64(ptr %a1, ptr %a0, i64 %r21, i1 false)' "copy_bits alone"
     step "refused: copy_bits' address elsewhere" strange '%r0 = alloca' '  %r9999 = ptrtoaddr ptr %r0 to i64' "copy_bits alone"
     step "refused: an attribute" changed '{ nounwind "probe-stack"' '{ alwaysinline nounwind "probe-stack"'
     step "refused: an entry that the header has not" changed '@router_version' '@router_revision' \

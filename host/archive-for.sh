@@ -113,7 +113,7 @@ $compile -nostdinc -I"$room" -I"$top/include" -S -emit-llvm "$room/entries.c" -o
 # What is of x86-64 in the module is changed, and nothing else:
 # - The target's layout and name, for those of x86-64. Every offset and alignment is written down in bytes, with room of
 #   8 for a pointer, and a number is read in the width that it was written in, but for cases (below): bytes have alignment
-#   1, and with that nothing wider is read. So neither the layout nor the order of bytes matters.
+#   1, and with that nothing wider is read but in an entry (below). So neither the layout nor the order of bytes matters.
 # - The attributes of each function but for x86-64: the processor (-mcpu), and the probes of a stack that ends in pages to
 #   trap on.
 # - The entries have the types that C's have, and extend a small result as C asks for it; of the upper bits of a small
@@ -124,8 +124,8 @@ $compile -nostdinc -I"$room" -I"$top/include" -S -emit-llvm "$room/entries.c" -o
 # - Which case a value is of is read in a byte, and written in one: x86-64 writes it with the zeros that follow it, of
 #   which the byte that is read is the first there and the last on a big-endian processor. Nothing else is written in more
 #   than a byte with alignment 1, and nothing in an entry, which reads with it the pointers and lengths that it wrote with
-#   8: else, or where such a number is read whole, in a pair too, or a byte with more than alignment 1, the module is
-#   refused.
+#   8: else, or where such a number is read whole, in a pair too, or a byte with more than alignment 1, unless it is the
+#   first of a pair with a wider second, the module is refused.
 # - A pair is loaded field by field, the second from where x86-64 has it, since another target might have it elsewhere:
 #   at its own width, as the first is no wider, or the module is refused.
 # - On 32 bits the length of a copy is cut to, or written as, such a number, and an address has as many bits and is widened.
@@ -141,8 +141,8 @@ awk -v size="$size" -v same=$same '
     /^define / { split("", told); entry = /^define noundef /; copies = named($0) ~ /::copy_bits::/ }
     !copies && / = ptrtoaddr |@llvm\.memmove.*, i64 %[ar]/ { fail("what copy_bits alone may do") }
     / = zext i8 / { told[$1] = 1 }
-    !entry && / = load i(16|32|64), .*, align 1(,|$)/ { fail("a case read in more than a byte") }
-    / = load i8, .*, align [248](,|$)/ { fail("a byte read with the alignment of a wider number") }
+    !entry && / = load (i(16|32|64)|ptr), .*, align 1(,|$)/ { fail("a case read in more than a byte") }
+    / = load i[18], .*, align [248](,|$)/ { fail("a byte read with the alignment of a wider number") }
     /^target datalayout / { printf "%s", target; next }
     /^target triple / { next }
     /^attributes #0 / && same == "no" { print "attributes #0 = { nounwind }"; next }
@@ -155,7 +155,7 @@ awk -v size="$size" -v same=$same '
         sub(/\.i64\(/, ".i32("); sub(/, i64/, ", i32")
     }
     size == 4 && / = ptrtoaddr / { cut++; print "  %n" cut " = ptrtoaddr ptr " $5 " to i32"; print "  " $1 " = zext i32 %n" cut " to i64"; next }
-    /^  store i(16|32|64) .*, align 1$/ {
+    /^  store (i(16|32|64)|ptr) .*, align 1$/ {
         if (entry) fail("a case written in an entry")
         value = substr($3, 1, length($3) - 1); cut++
         if (!(value in told) && (value !~ /^[0-9]+$/ || value + 0 > 255)) fail("a case written that is no byte")
@@ -169,6 +169,7 @@ awk -v size="$size" -v same=$same '
         at = width[second]; cut++
         if (width[first] > at) fail("a pair whose first is the wider")
         if (whole + 0 < at) fail("a case read in more than a byte")
+        if (whole + 0 > at) fail("a byte read with the alignment of a wider number")
         if (same == "yes") { print; next }
         print "  %n" cut " = load " first ", ptr " from ", align " whole
         print "  %o" cut " = getelementptr i8, ptr " from ", i64 " at

@@ -9,7 +9,7 @@ ghost use Rattle.events.specs.declared.Refused.TheVariants.{Record, Call};
 ghost use Rattle.events.specs.declared.Pending.{Pending};
 ghost use Rattle.events.specs.Values.{tape_in, tape_of, taken_in, taken_of, refused_number};
 
-use layout::{Answers, ClockReading, Field, Packets, Port, Router};
+use layout::{Answers, ClockReading, Field, Memory, Packets, Port, Router, State};
 use records::Kind;
 
 // The ports with an arrival for the coming tick, and the number of the record that brought each. The numbers outlive the mask, which a tick clears: what it refuses is told of them.
@@ -75,22 +75,32 @@ pub struct Tape<const S: usize, const M: usize> {
 // With areas of the router's own lengths.
 pub type RouterTape = Tape<{ Router::STATE }, { Router::MEMORY }>;
 
+// A tape's beginning: a fresh router at clock 0, and no arrival that waits.
+pub fn begin(state: &mut State, memory: &mut Memory, arrivals: &mut Packets) -> Pending
+    ensures { tape_in state.new memory.new arrivals.new result ≡ Rules.start }
+{
+    router::router_fresh(state, memory, 0).unwrap();
+    *arrivals = [0; Router::ARRIVALS];
+    Pending {
+        mask: 0,
+        records: [0; Router::PORTS],
+    }
+}
+
 impl RouterTape {
-    // A tape's beginning: a fresh router at clock 0, and no arrival that waits.
+    // The same in areas of its own.
     pub fn begin() -> RouterTape
         ensures { tape_of result ≡ Rules.start }
     {
         let mut state = [0u8; Router::STATE];
         let mut memory = [0u8; Router::MEMORY];
-        router::router_fresh(&mut state, &mut memory, 0).unwrap();
+        let mut arrivals = [0u8; Router::ARRIVALS];
+        let pending = begin(&mut state, &mut memory, &mut arrivals);
         Tape {
             state,
             memory,
-            arrivals: [0; Router::ARRIVALS],
-            pending: Pending {
-                mask: 0,
-                records: [0; Router::PORTS],
-            },
+            arrivals,
+            pending,
         }
     }
 }
@@ -127,16 +137,17 @@ fn take_arrival(arrivals: &mut Packets, pending: &mut Pending, number: u64, byte
     layout::copy_in(&bytes[4..], arrivals, Router::PACKET * place);
 }
 
-// A tick; an accepted one leaves its reply in the lent one, a refused one keeps the arrivals that wait.
+// A tick; an accepted one leaves what it sends and its answers in the lent areas, a refused one keeps the arrivals that wait.
 fn take_tick(
     state: &mut [u8],
     memory: &mut [u8],
     arrivals: &Packets,
     pending: &mut Pending,
     bytes: &[u8],
-    reply: &mut Reply,
+    outgoing: &mut Packets,
+    answers: &mut Answers,
 ) -> Event
-    ensures { (k : ℕ) → taken_in k state.new memory.new arrivals.now pending.new result reply.new.outgoing reply.new.answers ≡ Rules.take_tick (tape_in state.old memory.old arrivals.now pending.old) k bytes.now }
+    ensures { (k : ℕ) → taken_in k state.new memory.new arrivals.now pending.new result outgoing.new answers.new ≡ Rules.take_tick (tape_in state.old memory.old arrivals.now pending.old) k bytes.now }
 {
     let clock = layout::get(state, Field::Clock);
     let waiting = layout::byte(bytes, 1);
@@ -144,8 +155,8 @@ fn take_tick(
         state,
         memory,
         arrivals,
-        &mut reply.outgoing,
-        &mut reply.answers,
+        outgoing,
+        answers,
         pending.mask,
         waiting,
     )?;
@@ -153,7 +164,7 @@ fn take_tick(
     Ok(Some(ClockReading(clock)))
 }
 
-// One record: its questions, then what its kind does. An accepted tick leaves its reply in the lent one. The router's areas are lent too, of any lengths.
+// One record: its questions, then what its kind does. An accepted tick leaves what it sends and its answers in the lent areas. The router's areas may have any lengths.
 #[tactic(auto, unfolding(crate::specs::Tape::take_record))]
 pub fn take_record(
     state: &mut [u8],
@@ -162,9 +173,10 @@ pub fn take_record(
     pending: &mut Pending,
     number: u64,
     bytes: &[u8],
-    reply: &mut Reply,
+    outgoing: &mut Packets,
+    answers: &mut Answers,
 ) -> Event
-    ensures { taken_in number state.new memory.new arrivals.new pending.new result reply.new.outgoing reply.new.answers ≡ Rules.take_record (tape_in state.old memory.old arrivals.old pending.old) number bytes.now }
+    ensures { taken_in number state.new memory.new arrivals.new pending.new result outgoing.new answers.new ≡ Rules.take_record (tape_in state.old memory.old arrivals.old pending.old) number bytes.now }
 {
     match records::questions(pending.mask, bytes)? {
         Kind::Control => take_control(state, memory, bytes),
@@ -172,7 +184,7 @@ pub fn take_record(
             take_arrival(arrivals, pending, number, bytes);
             Ok(None)
         }
-        Kind::Tick => take_tick(state, memory, arrivals, pending, bytes, reply),
+        Kind::Tick => take_tick(state, memory, arrivals, pending, bytes, outgoing, answers),
     }
 }
 
@@ -188,7 +200,8 @@ impl<const S: usize, const M: usize> Tape<S, M> {
             &mut self.pending,
             number,
             bytes,
-            reply,
+            &mut reply.outgoing,
+            &mut reply.answers,
         )
     }
 }

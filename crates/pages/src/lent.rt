@@ -41,6 +41,9 @@ pub fn put_end(lines: &mut [u8], at: usize, ticks: usize, total: u64) -> usize
     ensures put { (number : ℕ) → Put (Printing.ending (record { number = number; ticks = ticks; total = total })) at lines.old lines.new result }
     ensures bound { result ≤ at + 4526 }
 {
+    if ticks == 0 {
+        return at;
+    }
     let mut rest = ArrayVec::<u8, 4526>::new();
     crate::put_end(&mut rest, ticks, total);
     layout::copy_in(&rest, lines, at);

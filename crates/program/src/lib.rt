@@ -232,7 +232,7 @@ pub fn print<I: Read, O: Write, E: Write>(
     let mut printer = Printer::new(style);
     let printed = printer.run(&mut streams.input, &mut streams.output);
     if let Err(failure) = printed {
-        // The line goes out by one write, so that nothing comes between it and its line feed.
+        // What is said goes out by one write with its line feed, so that nothing comes between them; the longest has 33 bytes.
         let mut line = ArrayString::<48>::new();
         let _ = fmt::Write::write_fmt(&mut line, format_args!("{failure}\n"));
         let _ = streams.errors.write_all(name);

@@ -8,11 +8,10 @@ use Rattle.records.specs.Records.{record_at}
 use Rattle.events.specs.Tape.{Tape, Event, Taken, take_record, after, events_of}
 use Rattle.pages.specs.Printing.{Page, unbegun, Paged, in_order}
 use Rattle.pages.specs.Claims.{PagesAsTicksCome}
-use Rattle.pages.specs.Values.{PutPaged}
+use Rattle.pages.specs.Values.{PutPaged, PutPagedAt}
 use Rattle.pages.proofs.AsTicksCome.{pages_as_ticks_come}
 use Rattle.tapes.specs.declared.printing.Style.{Style}
 use Rattle.tapes.specs.declared.printing.Style.TheVariants.{Lines, Pages}
-use Rattle.pages.specs.Values.{PutPagedAt}
 use Rattle.tapes.specs.Printed.{lines_of, printed, print_event, print_events, print_end}
 use Rattle.tapes.proofs.Put.{put_then}
 
@@ -55,11 +54,11 @@ module _ (σ : Tape) (k : ℕ) (b : List ℕ) (i : ℕ) (τ : Tape) (so_far : τ
       rw (add-one i, ← as_in_after, print-append style p (after σ k b i).events (next.event ∷ []), append-nil e.text)
       (record { page = z.page; text = z.text ∙ rw x.text (append_assoc l o.text e.text) })
 
-  pub put-then : (style : Style) (p q r : Page) {l l' l'' : List ℕ} {at m n : ℕ}
+  pub lent-then : (style : Style) (p q r : Page) {l l' l'' : List ℕ} {at m n : ℕ}
       → PutPagedAt (print_events style p (after σ k b i).events) q at l l' m → PutPagedAt (print_event style q next.event) r m l' l'' n
       → PutPagedAt (print_events style p (after σ k b (i + 1)).events) r at l l'' n
   unfolding after in_order
-  put-then style p q r x y =
+  lent-then style p q r x y =
       let z = rw x.page at y in
       let o = print_events style p (after σ k b i).events in
       let e = print_event style o.page next.event in

@@ -17,10 +17,8 @@ use events::Pending;
 use layout::{ClockReading, Packets, Router};
 use pages::Page;
 
-// What goes out with a record has at most so many characters, and what goes out at the tape's end.
+// What goes out with a record has at most so many characters.
 const TEXT: usize = 161;
-
-const END: usize = 4526;
 
 fn put(text: &[u8], lines: &mut [u8], at: usize) -> usize
     requires { at + length text.now ≤ length lines.old }
@@ -87,14 +85,16 @@ pub fn put_event(
 }
 
 // What goes out at the tape's end, at most 62 lines.
+#[tactic(auto, unfolding(crate::specs::Printed::print_end))]
 pub fn put_end(lines: &mut [u8], at: usize, style: Style, page: &Page) -> usize
     requires { at + 4526 ≤ length lines.old }
     ensures put { Put (print_end style page.now) at lines.old lines.new result }
     ensures upper_bound { result ≤ at + 4526 }
 {
-    let mut text = ArrayVec::<u8, END>::new();
-    printing::put_end(&mut text, style, page);
-    put(&text, lines, at)
+    match style {
+        Style::Lines => at,
+        Style::Pages => pages::lent::put_end(lines, at, page.ticks, page.total),
+    }
 }
 
 // One record, and its text.

@@ -12,7 +12,7 @@ ghost use Rattle.tapes.specs.Values.{place_in, place_of};
 use crate::printing;
 use crate::printing::Style;
 use arrayvec::ArrayVec;
-use events::{Pending, Reply, RouterTape, Tape};
+use events::{Pending, RouterTape, Tape};
 use layout::{Packets, Router};
 use pages::Page;
 
@@ -33,11 +33,18 @@ pub fn step_areas<const N: usize>(
     ensures put_paged { PutPaged (print_event style page.old (take_record (tape_in state.old memory.old arrivals.old pending.old) number bytes.now).event) page.new lines.old.items lines.new.items }
     ensures len { array_vec_len lines.new ≤ array_vec_len lines.old + 161 }
 {
-    let mut reply = Reply {
-        outgoing: [0; Router::OUTGOING],
-        answers: [0; Router::ANSWERS],
-    };
-    let event = events::take_record(state, memory, arrivals, pending, number, bytes, &mut reply);
+    let mut outgoing = [0u8; Router::OUTGOING];
+    let mut answers = [0u8; Router::ANSWERS];
+    let event = events::take_record(
+        state,
+        memory,
+        arrivals,
+        pending,
+        number,
+        bytes,
+        &mut outgoing,
+        &mut answers,
+    );
     printing::put_event(
         lines,
         style,
@@ -45,8 +52,8 @@ pub fn step_areas<const N: usize>(
         number,
         pending.records,
         event,
-        &reply.outgoing,
-        &reply.answers,
+        &outgoing,
+        &answers,
     );
 }
 

@@ -25,7 +25,7 @@ fn put_counts(part: &mut [u8], counts: [u16; Router::PORTS])
     }
 }
 
-// Lays out what the arrivals met, byte by byte: a copy of five is a call of memcpy on a Cortex-M0+, for which libservice.a has no other use there.
+// Lays out what the arrivals met, byte by byte: a copy of these five is a call of memcpy on a Cortex-M0+, for which libservice.a has no other use there.
 fn put_met(answers: &mut Answers, met: [u8; Router::PORTS])
     ensures { answers.new ≡ sets answers.old 5 met }
 {

@@ -6,7 +6,7 @@ use Rattle.events.specs.Tape.{after}
 use Rattle.pages.specs.Printing.{in_order}
 use Rattle.tapes.specs.Blocks.{turned}
 use Rattle.tapes.proofs.Chunks.{chunk-first, chunk-leaves}
-use Rattle.tapes.proofs.Texts.{tape-then, put-then}
+use Rattle.tapes.proofs.Texts.{tape-then, lent-then}
 use Rattle.tapes.proofs.lent.run.Goals as goal
 
 pub loop-record-init : goal.loop-record-init
@@ -40,7 +40,7 @@ loop-record-preserved c =
       room = omega (arith, loop.room, c.step-place.ensures.upper_bound);
       area = search rules;
       tape = tape-then _ _ _ i _ loop.tape _ _ number same _ c.step-place.ensures.tape_after;
-      text = put-then _ _ _ i _ loop.tape _ _ number same _ _ _ _ loop.text c.step-place.ensures.put_paged;
+      text = lent-then _ _ _ i _ loop.tape _ _ number same _ _ _ _ loop.text c.step-place.ensures.put_paged;
     })
 
 pub returns-clause-place_after : goal.returns-clause-place_after
