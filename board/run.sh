@@ -68,6 +68,8 @@ refusals() {
     step "refused: a number made into a pointer" strange '^start:' '  %strange = inttoptr i64 16 to ptr'
     step "refused: a pointer made into a number" strange '%r0 = alloca' '  %strange = ptrtoint ptr %r0 to i64'
     step "refused: a global" strange '^target triple' '@strange = global i8 0'
+    step "refused: a global of zeros" strange '^target triple' \
+        '@strange = private unnamed_addr constant [1 x i8] zeroinitializer, align 1'
     step "refused: a function from elsewhere" strange '^target triple' 'declare void @strange()'
     step "refused: a number of 128 bits" strange '^start:' '  %strange = alloca i128, align 16'
     step "refused: a structure" strange '^start:' '  %strange = alloca { i8, i64 }, align 8'
@@ -85,7 +87,7 @@ refusals() {
     step "refused: a byte with more than its alignment" strange '%r0 = alloca' '  %r9999 = load i8, ptr %r0, align 8' \
         "alignment of a wider number"
     step "refused: two bytes with more than theirs" strange '%r0 = alloca' '  %r9999 = load { i8, i8 }, ptr %r0, align 8' \
-        "alignment of a wider number"
+        "a pair read with the alignment"
     step "taken: a case of 3 and one of 255" taken '%r0 = alloca' '  store i64 3, ptr %r0, align 1' \
         '  store i64 255, ptr %r0, align 1'
     step "refused: a copy of a length that is no number" changed ', i64 16, i1 false' ', i64 %a1, i1 false'

@@ -169,7 +169,7 @@ awk -v size="$size" -v same=$same '
         at = width[second]; cut++
         if (width[first] > at) fail("a pair whose first is the wider")
         if (whole + 0 < at) fail("a case read in more than a byte")
-        if (whole + 0 > at) fail("a byte read with the alignment of a wider number")
+        if (whole + 0 > at) fail("a pair read with the alignment of a wider number")
         if (same == "yes") { print; next }
         print "  %n" cut " = load " first ", ptr " from ", align " whole
         print "  %o" cut " = getelementptr i8, ptr " from ", i64 " at
